@@ -1,0 +1,100 @@
+-- Good input is not refused; on a good entry a run with no budget and one with a stop request end differently.
+-- Assumes nothing.
+use Prim.Native.Nat.{ℕ, zero, suc, _+_, _*_, _/_, _%_, _≤_, _<_}
+use native.Mathlib.Omega.{arith}
+use mathlib.Core.Path.{_≡_, ap, _∙_}
+use mathlib.Core.Bool.{true, false}
+use mathlib.Core.List.{List}
+use lib.Dec.{lit<, lit≤}
+use lib.ListN.{length}
+use borrow.Author.Tests.{eq-eqb, ne-eqb, le-ltb}
+use Rattle.machine.specs.declared.Answer.the-variants.{Ended}
+use Rattle.machine.specs.declared.End.the-variants.{Intercepted}
+use Rattle.machine.specs.declared.Numbers.{Numbers}
+use Rattle.machine.specs.declared.Reason.the-variants.{Stop}
+use Rattle.machine.specs.Words.{byteAt, halfAt, wordAt}
+use Rattle.machine.specs.Record.{guestOf}
+use Rattle.machine.specs.Refusals.{frameBytes, mostFrames, mostUnits, mostTime, wrongLength, wrongVersion, wrongStorage, wrongKeys, wrongBudget, wrongTime, reservedUsed, wrongAccess, checkVerdict, translateVerdict, runVerdict}
+use Rattle.machine.specs.Units.{stopRequested, unit}
+use Rattle.machine.specs.Run.{Machine, unitFrom, stepOf, step, onward, run}
+use Rattle.machine.specs.Operations.{resultOf, machineOf, runAs, runOf}
+use Rattle.machine.specs.Theorems.{GoodInput, GoodInputIsAccepted, BudgetAndStopDiffer}
+use Rattle.machine.proofs.Laws.{guest-of-withResults}
+
+module _ (r storage keys : List ℕ) (good : GoodInput r storage keys) where
+  length-good : wrongLength r ≡ false
+  unfolding wrongLength
+  length-good = rw (good .long, good .lengthField)
+
+  version-good : wrongVersion r ≡ false
+  unfolding wrongVersion
+  version-good = rw (good .version)
+
+  storage-good : wrongStorage storage ≡ false
+  unfolding wrongStorage
+  storage-good =
+      rw (
+        ne-eqb (length storage) 0 (omega (arith, good)),
+        le-ltb (mostFrames * frameBytes) (length storage) (omega (arith, good)),
+        eq-eqb (length storage % frameBytes) 0 (omega (arith, good)),
+      )
+
+  keys-good : wrongKeys storage keys ≡ false
+  unfolding wrongKeys
+  keys-good = rw (eq-eqb (length keys) (length storage / frameBytes) (omega (arith, good)))
+
+  reserved-good : reservedUsed r ≡ false
+  unfolding reservedUsed wordAt
+  reserved-good =
+      rw (eq-eqb (wordAt r 66 + halfAt r 70) 0 (omega (arith, z 66 (lit≤ tt) (lit< tt), z 67 (lit≤ tt) (lit< tt), z 68 (lit≤ tt) (lit< tt), z 69 (lit≤ tt) (lit< tt), z 70 (lit≤ tt) (lit< tt), z 71 (lit≤ tt) (lit< tt))))
+    where
+      z : (i : ℕ) → 66 ≤ i → i < 72 → byteAt r i ≡ 0
+      z = good .reserved
+
+  access-good : (kind : ℕ) → kind ≤ 2 → wrongAccess kind ≡ false
+  unfolding wrongAccess
+  access-good kind h = le-ltb 2 kind h
+
+pub good-input-is-accepted : GoodInputIsAccepted
+unfolding checkVerdict translateVerdict runVerdict wrongBudget wrongTime
+good-input-is-accepted = record {
+  byCheck = λ r s k good. rw (length-good r s k good, version-good r s k good, reserved-good r s k good);
+  byTranslate =
+      λ r s k kind good h.
+      rw (
+        length-good r s k good,
+        version-good r s k good,
+        storage-good r s k good,
+        keys-good r s k good,
+        reserved-good r s k good,
+        access-good r s k good kind h,
+      );
+  byRun =
+      λ n r s k good b t.
+      rw (
+        length-good r s k good,
+        version-good r s k good,
+        storage-good r s k good,
+        keys-good r s k good,
+        le-ltb mostUnits (n .budget) b,
+        le-ltb mostTime (n .time) t,
+        reserved-good r s k good,
+      );
+}
+
+-- with a stop request the first unit is an exit
+stopped-at-once : (b : ℕ) (n : Numbers) (m : Machine) → 0 < b → stopRequested (guestOf (m .description)) ≡ true
+    → (resultOf (run b n m)) .answer ≡ Ended (Intercepted Stop) 0
+unfolding resultOf run step stepOf onward unitFrom unit
+stopped-at-once zero n m some stop = absurd (omega arith)
+stopped-at-once (suc b) n m some stop = rw stop
+
+pub budget-and-stop-differ : BudgetAndStopDiffer
+unfolding runOf runAs machineOf resultOf run
+budget-and-stop-differ = record {
+  noBudget = λ n r storage keys accepted good. rw (accepted, good);
+  stopped =
+      λ n r storage keys accepted good some stop.
+      rw (accepted, good)
+      (stopped-at-once (n .budget) n (machineOf n r storage keys) some (ap stopRequested (guest-of-withResults _ r) ∙ stop));
+}

@@ -1,0 +1,172 @@
+-- The starred examples of document 01 hold: specs/Examples.
+use Prim.Native.Nat.{ℕ, _+_, _-_, _*_, _/_, _%_, _^_, _<_, _≤_}
+use native.Mathlib.Nat.{zero-add, div-add-mod'}
+use native.Mathlib.Omega.{arith}
+use mathlib.Core.Path.{_≡_, refl}
+use mathlib.Core.Bool.{Bool, true, false, cond}
+use mathlib.Core.List.{List, [], _++_}
+use lib.Dec.{eqb}
+use lib.ListN.{length, set, replicate}
+use lib.Seq.{getD-set-same}
+use borrow.Author.Tests.{lt-ltb, le-ltb, le-leb, eqb-true}
+use Rattle.machine.specs.declared.Class.the-variants.{Ar}
+use Rattle.machine.specs.declared.Cpu.{Cpu}
+use Rattle.machine.specs.declared.Guest.{Guest}
+use Rattle.machine.specs.declared.Translated.the-variants as translated
+use Rattle.machine.specs.declared.Walk.{Walk}
+use Rattle.machine.specs.declared.Walk.the-variants.{Page, Failed}
+use Rattle.machine.specs.Words.{bits, wordAt}
+use Rattle.machine.specs.Record.{guestOf, pswOf, cpuOf}
+use Rattle.machine.specs.Refusals.{wrongLength, wrongVersion, wrongStorage, wrongKeys, reservedUsed, wrongAccess, translateVerdict}
+use Rattle.machine.specs.Entry.{modeInstalled, extentFits, prefixFits, entryGood}
+use Rattle.machine.specs.Psw.{datOn, conditionCode, overflowEnabled, wrap, withPsw, withTimer, control, general, withGeneral, withAddress, advanced, withConditionCode}
+use Rattle.machine.specs.Time.{guestClock, comparatorDue, timerDue, timerAfter, charged}
+use Rattle.machine.specs.Failures.{segmentTranslation, pageTranslation, addressing, hostFault, exceptionOf, walkException}
+use Rattle.machine.specs.Walk.{entry, walkPage, walkSegment, walk}
+use Rattle.machine.specs.Host.{Host, Cell, hostEntry, inStorage, hostPage, backing, cellOf, view}
+use Rattle.machine.specs.Addresses.{prefixed, formatGood, realPage, settle, keyProtects, inPage, access, denied}
+use Rattle.machine.specs.Outcomes.{Effects, completed, Progress}
+use Rattle.machine.specs.Execute.{r1, r2, next, finish, sumCode, withSum, summed, add, execute}
+use Rattle.machine.specs.Operations.{addressIn, translatedTo, translatedAs, translate}
+use Rattle.machine.specs.Examples.{Setup, StarredExamples}
+
+-- prefix 0 exchanges nothing
+unprefixed : (g : Guest) (a : ℕ) → g .prefix ≡ 0 → prefixed g a ≡ a
+unfolding prefixed
+unprefixed g a none = rw none (go (eqb (a / 4096) 0) refl)
+  where
+    go : (b : Bool) → eqb (a / 4096) 0 ≡ b → cond b (0 + a % 4096) (cond b (a % 4096) a) ≡ a
+    go true e = let zero : a / 4096 ≡ 0 = eqb-true _ _ e in omega arith
+    go false e = refl
+
+module _ (r : List ℕ) (h : Host) (s : Setup r h) where
+  entry-good : entryGood (guestOf r) ≡ true
+  unfolding entryGood extentFits prefixFits
+  entry-good = rw (s .mode, s .origin, s .extent, s .prefix)
+
+  wrapped : (a : ℕ) → a < 2 ^ 31 → wrap (cpuOf r) a ≡ a
+  unfolding wrap
+  wrapped a small = rw (s .bit32) (omega arith)
+
+  -- with DAT off, prefix 0 and key 0 a fetch meets no test but the host's
+  fetched : (a : ℕ) → a < 2 ^ 31 → translate r h a 0 ≡ addressIn a (backing (guestOf r) h a)
+  unfolding translate translatedAs translatedTo access realPage inPage view keyProtects cellOf settle addressIn
+  fetched a small =
+      rw (s .accepted, entry-good, wrapped, s .datOff, div-add-mod', unprefixed, s .prefix)
+      (go (backing (guestOf r) h a) refl)
+    where
+      go : (w : Walk) → backing (guestOf r) h a ≡ w
+          → translatedTo r h (settle (guestOf r) false (keyProtects (cpuOf r) false) a (cellOf h a w)) ≡ addressIn a w
+      go (Failed f) e = refl
+      go (Page frame protected) e = rw (s .key, e)
+
+  -- in the one block of the guest, the word of the page's entry decides
+  fetched-in-block : (a w : ℕ) → a < 65536 → wordAt (h .storage) (8192 + a / 4096 * 4) ≡ w
+      → translate r h a 0 ≡ addressIn a (inStorage (h .storage) a (walkPage (hostFault a) (entry w)))
+  unfolding backing hostPage walk walkSegment hostEntry
+  fetched-in-block a w inside word =
+      let segment : a / 1048576 ≡ 0 = omega arith in
+      let page : a / 4096 % 256 ≡ a / 4096 = omega arith in
+      let row : a / 4096 / 16 ≡ 0 = omega arith in
+      let read : 8192 + a / 4096 * 4 + 4 ≤ length (h .storage) = omega arith in
+      rw
+      (fetched a (omega arith), s .extent, s .origin, lt-ltb, zero-add, s .designation, segment, s .frames, s .segment, page, row, le-leb, word)
+
+  -- page 0 stands in frame 3
+  fetched-from-page-0 : (a : ℕ) → a < 4096 → translate r h a 0 ≡ translated.Address (3 * 4096 + a % 4096)
+  unfolding addressIn inStorage walkPage
+  fetched-from-page-0 a inside =
+      let page : a / 4096 ≡ 0 = omega arith in
+      rw (fetched-in-block a 0x3000 (omega arith) (rw page (s .page)), s .frames)
+
+  fetch-at-4096 : translate r h 4096 0 ≡ translated.Failed (hostFault 4096 pageTranslation)
+  unfolding addressIn inStorage walkPage
+  fetch-at-4096 = rw (fetched-in-block 4096 0x0400 (omega arith) (s .pageAfter))
+
+  fetch-at-65536 : translate r h 65536 0 ≡ translated.Failed (exceptionOf addressing)
+  unfolding addressIn backing
+  fetch-at-65536 = rw (fetched 65536 (omega arith), s .extent)
+
+-- prefix 2000 hex exchanges blocks 0 and 2
+prefixed-by-2000 : (r : List ℕ) → wordAt r 8 ≡ 0x2000 → (a : ℕ)
+    → prefixed (guestOf r) a ≡ cond (eqb (a / 4096) 0) (0x2000 + a % 4096) (cond (eqb (a / 4096) 2) (a % 4096) a)
+unfolding prefixed guestOf
+prefixed-by-2000 r word a = rw word
+
+segment-past-table : (g : Guest) (v : ℕ → Cell) (c : Cpu) → datOn c ≡ true → formatGood c ≡ true → bits 32 25 31 (control c 1) ≡ 0
+    → access g v c false 0x01000000 ≡ denied (record { host = false; code = segmentTranslation; address = 0x01000000 })
+unfolding access realPage inPage walk walkException
+segment-past-table g v c on format short = rw (on, format, short)
+
+timer-at-0 : (c : Cpu) → c .timer ≡ 5 → ((charged c 5) .timer ≡ 0) × (timerDue (charged c 5) ≡ false)
+unfolding charged timerAfter withTimer timerDue
+timer-at-0 c five = (rw five, rw five)
+
+timer-below-0 : (c : Cpu) → c .timer ≡ 5 → ((charged (charged c 5) 5) .timer ≡ 2 ^ 64 - 5) × (timerDue (charged (charged c 5) 5) ≡ true)
+unfolding charged timerAfter withTimer timerDue
+timer-below-0 c five = (rw five, rw five)
+
+timer-wraps : (c : Cpu) → c .timer ≡ 2 ^ 63 → (charged c 1) .timer ≡ 2 ^ 63 - 1
+unfolding charged timerAfter withTimer
+timer-wraps c most = rw most
+
+comparator-reached : (g : Guest) (clock : ℕ) → guestClock g clock ≡ g .comparator → comparatorDue g clock ≡ false
+unfolding comparatorDue
+comparator-reached g clock reached = le-ltb (g .comparator) (guestClock g clock) (omega arith)
+
+add-overflows : (x : Progress) → length (x .cpu .general .words) ≡ 16 → general (x .cpu) (r1 x) ≡ 0x7fffffff → general (x .cpu) (r2 x) ≡ 1
+    → overflowEnabled (x .cpu) ≡ false
+    → (c : Cpu) × (e : Effects) × (execute Ar x ≡ completed c e) × (general c (r1 x) ≡ 0x80000000) × (conditionCode c ≡ 3)
+unfolding execute add summed withSum sumCode finish advanced withAddress withConditionCode withGeneral withPsw
+add-overflows x sixteen most one disabled =
+    (next x (withSum (x .cpu) (r1 x) 0x80000000 true), record { fetched = x .fetched ++ []; stores = [] }, rw (most, one, disabled), getD-set-same (x .cpu .general .words) (r1 x) 0x80000000 0 (omega arith), omega arith)
+
+pub starred-examples : StarredExamples
+starred-examples = record {
+  fetchAt0 = λ r h s. fetched-from-page-0 r h s 0 (omega arith);
+  fetchAt4095 = λ r h s. fetched-from-page-0 r h s 4095 (omega arith);
+  fetchAt4096 = fetch-at-4096;
+  fetchAt65536 = fetch-at-65536;
+  prefixFor0 = λ r word. prefixed-by-2000 r word 0;
+  prefixFor2010 = λ r word. prefixed-by-2000 r word 0x2010;
+  prefixFor1000 = λ r word. prefixed-by-2000 r word 0x1000;
+  segmentPastTable = segment-past-table;
+  timerAt0 = timer-at-0;
+  timerBelow0 = timer-below-0;
+  timerWraps = timer-wraps;
+  comparatorReached = comparator-reached;
+  addOverflows = add-overflows;
+}
+
+-- the setup can be met: a record, a storage and keys of zeros, but for the fields and words that it names
+pub setup-exists : (r : List ℕ) × (h : Host) × Setup r h
+unfolding translateVerdict wrongLength wrongVersion wrongStorage wrongKeys reservedUsed wrongAccess guestOf cpuOf pswOf wordAt modeInstalled
+setup-exists = (
+  description,
+  host,
+  record {
+    accepted = refl;
+    designation = refl;
+    segment = refl;
+    page = refl;
+    pageAfter = refl;
+    frames = refl;
+    mode = refl;
+    origin = refl;
+    extent = refl;
+    prefix = refl;
+    datOff = refl;
+    key = refl;
+    bit32 = refl;
+  },
+)
+  where
+    description : List ℕ
+    description = set (set (set (set (set (replicate 200 0) 1 200) 2 1) 4 8) 15 1) 20 0x80
+
+    host : Host
+    host = record {
+      designation = 0x1000;
+      storage = set (set (set (replicate 32768 0) 4098 0x20) 8194 0x30) 8198 0x04;
+      keys = replicate 8 0;
+    }

@@ -1,0 +1,57 @@
+-- Document 01, "Case file and worked examples": the starred examples, as one collection under a single statement.
+use Prim.Native.Nat.{ℕ, _-_, _*_, _^_}
+use mathlib.Core.Path.{_≡_}
+use mathlib.Core.Bool.{true, false}
+use mathlib.Core.List.{List}
+use lib.ListN.{length}
+use Rattle.machine.specs.declared.Class.the-variants.{Ar}
+use Rattle.machine.specs.declared.Cpu.{Cpu}
+use Rattle.machine.specs.declared.Guest.{Guest}
+use Rattle.machine.specs.declared.Translated.the-variants.{Address, Failed}
+use Rattle.machine.specs.declared.Verdict.the-variants.{Accepted}
+use Rattle.machine.specs.Words.{bits, wordAt}
+use Rattle.machine.specs.Record.{guestOf, cpuOf}
+use Rattle.machine.specs.Refusals.{translateVerdict}
+use Rattle.machine.specs.Entry.{modeInstalled}
+use Rattle.machine.specs.Psw.{datOn, accessKey, conditionCode, overflowEnabled, mode31, control, general}
+use Rattle.machine.specs.Time.{guestClock, comparatorDue, timerDue, charged}
+use Rattle.machine.specs.Failures.{segmentTranslation, pageTranslation, addressing, hostFault, exceptionOf}
+use Rattle.machine.specs.Host.{Host, Cell}
+use Rattle.machine.specs.Addresses.{prefixed, formatGood, access, denied}
+use Rattle.machine.specs.Outcomes.{Effects, completed, Progress}
+use Rattle.machine.specs.Execute.{r1, r2, execute}
+use Rattle.machine.specs.Operations.{translate}
+
+-- the setup: any record, storage and keys with these words, numbers and bits
+pub record Setup (r : List ℕ) (h : Host) : Type 0 where
+  pub accepted : translateVerdict r (h .storage) (h .keys) 0 ≡ Accepted
+  pub designation : h .designation ≡ 0x1000
+  pub segment : wordAt (h .storage) 4096 ≡ 0x2000
+  pub page : wordAt (h .storage) 8192 ≡ 0x3000
+  pub pageAfter : wordAt (h .storage) 8196 ≡ 0x0400
+  pub frames : length (h .storage) ≡ 8 * 4096
+  pub mode : modeInstalled (guestOf r) ≡ true
+  pub origin : (guestOf r) .origin ≡ 0
+  pub extent : (guestOf r) .extent ≡ 1
+  pub prefix : (guestOf r) .prefix ≡ 0
+  pub datOff : datOn (cpuOf r) ≡ false
+  pub key : accessKey (cpuOf r) ≡ 0
+  pub bit32 : mode31 (cpuOf r) ≡ true
+
+pub record StarredExamples : Type 0 where
+  pub fetchAt0 : (r : List ℕ) (h : Host) → Setup r h → translate r h 0 0 ≡ Address 12288
+  pub fetchAt4095 : (r : List ℕ) (h : Host) → Setup r h → translate r h 4095 0 ≡ Address 16383
+  pub fetchAt4096 : (r : List ℕ) (h : Host) → Setup r h → translate r h 4096 0 ≡ Failed (hostFault 4096 pageTranslation)
+  pub fetchAt65536 : (r : List ℕ) (h : Host) → Setup r h → translate r h 65536 0 ≡ Failed (exceptionOf addressing)
+  pub prefixFor0 : (r : List ℕ) → wordAt r 8 ≡ 0x2000 → prefixed (guestOf r) 0 ≡ 0x2000
+  pub prefixFor2010 : (r : List ℕ) → wordAt r 8 ≡ 0x2000 → prefixed (guestOf r) 0x2010 ≡ 0x10
+  pub prefixFor1000 : (r : List ℕ) → wordAt r 8 ≡ 0x2000 → prefixed (guestOf r) 0x1000 ≡ 0x1000
+  pub segmentPastTable : (g : Guest) (v : ℕ → Cell) (c : Cpu) → datOn c ≡ true → formatGood c ≡ true → bits 32 25 31 (control c 1) ≡ 0
+      → access g v c false 0x01000000 ≡ denied (record { host = false; code = segmentTranslation; address = 0x01000000 })
+  pub timerAt0 : (c : Cpu) → c .timer ≡ 5 → ((charged c 5) .timer ≡ 0) × (timerDue (charged c 5) ≡ false)
+  pub timerBelow0 : (c : Cpu) → c .timer ≡ 5 → ((charged (charged c 5) 5) .timer ≡ 2 ^ 64 - 5) × (timerDue (charged (charged c 5) 5) ≡ true)
+  pub timerWraps : (c : Cpu) → c .timer ≡ 2 ^ 63 → (charged c 1) .timer ≡ 2 ^ 63 - 1
+  pub comparatorReached : (g : Guest) (clock : ℕ) → guestClock g clock ≡ g .comparator → comparatorDue g clock ≡ false
+  pub addOverflows : (x : Progress) → length (x .cpu .general .words) ≡ 16 → general (x .cpu) (r1 x) ≡ 0x7fffffff → general (x .cpu) (r2 x) ≡ 1
+      → overflowEnabled (x .cpu) ≡ false
+      → (c : Cpu) × (e : Effects) × (execute Ar x ≡ completed c e) × (general c (r1 x) ≡ 0x80000000) × (conditionCode c ≡ 3)

@@ -1,0 +1,24 @@
+-- The definition of document 01. One module for each part; docs/ARCHITECTURE.md has the table of headings and names.
+pub mod Words
+pub mod Record
+pub mod Refusals
+pub mod Entry
+pub mod Psw
+pub mod Time
+pub mod Failures
+pub mod Walk
+pub mod Host
+pub mod Frames
+pub mod Addresses
+pub mod Opcodes
+pub mod Outcomes
+pub mod Interruptions
+pub mod Execute
+pub mod Units
+pub mod Run
+pub mod Operations
+pub mod Answers
+pub mod Theorems
+pub mod Isolation
+pub mod IsolationOfAnswers
+pub mod Examples

@@ -1,0 +1,83 @@
+-- Document 01, "The record", the table of refusals. Refusal 9 is the case file's.
+use Prim.Native.Nat.{ℕ, _+_, _*_, _/_, _%_}
+use mathlib.Core.Bool.{Bool, cond, not, _&&_, _||_}
+use mathlib.Core.List.{List}
+use lib.Dec.{eqb, ltb}
+use lib.ListN.{length}
+use Rattle.machine.specs.declared.Numbers.{Numbers}
+use Rattle.machine.specs.declared.Verdict.{Verdict}
+use Rattle.machine.specs.declared.Verdict.the-variants.{Accepted, Refused}
+use Rattle.machine.specs.Words.{byteAt, halfAt, wordAt}
+use Rattle.machine.specs.Record.{recordLength, recordVersion}
+
+abbrev pub frameBytes : ℕ
+frameBytes = 4096
+
+abbrev pub mostFrames : ℕ
+mostFrames = 4096
+
+abbrev pub mostUnits : ℕ
+mostUnits = 65535
+
+abbrev pub mostTime : ℕ
+mostTime = 1048576
+
+-- the whole frames of a storage
+abbrev pub framesOf : List ℕ → ℕ
+framesOf storage = length storage / frameBytes
+
+-- 1: record or its length field is not 200
+unfoldable pub wrongLength : List ℕ → Bool
+wrongLength r = not (eqb (length r) recordLength && eqb (halfAt r 0) recordLength)
+
+-- 2: version is not 1
+unfoldable pub wrongVersion : List ℕ → Bool
+wrongVersion r = not (eqb (byteAt r 2) recordVersion)
+
+-- 3: storage is empty, over 4,096 frames or not whole frames
+unfoldable pub wrongStorage : List ℕ → Bool
+wrongStorage storage = eqb (length storage) 0 || ltb (mostFrames * frameBytes) (length storage) || not (eqb (length storage % frameBytes) 0)
+
+-- 4: number of keys differs from number of frames
+unfoldable pub wrongKeys : List ℕ → List ℕ → Bool
+wrongKeys storage keys = not (eqb (length keys) (framesOf storage))
+
+-- 5: budget too large
+unfoldable pub wrongBudget : Numbers → Bool
+wrongBudget n = ltb mostUnits (n .budget)
+
+-- 6: time per unit too large
+unfoldable pub wrongTime : Numbers → Bool
+wrongTime n = ltb mostTime (n .time)
+
+-- 7: one of bytes 66-71 is not zero
+unfoldable pub reservedUsed : List ℕ → Bool
+reservedUsed r = not (eqb (wordAt r 66 + halfAt r 70) 0)
+
+-- 8: access kind is not 0 (operand fetch), 1 (store) or 2 (instruction fetch)
+unfoldable pub wrongAccess : ℕ → Bool
+wrongAccess kind = ltb 2 kind
+
+-- a test with its number, before the tests that come later
+abbrev pub refuse : ℕ → Bool → Verdict → Verdict
+refuse number test later = cond test (Refused number) later
+
+-- Checked in this order, each where the operation has that input.
+
+unfoldable pub checkVerdict : List ℕ → Verdict
+checkVerdict r = refuse 1 (wrongLength r) (refuse 2 (wrongVersion r) (refuse 7 (reservedUsed r) Accepted))
+
+unfoldable pub translateVerdict : List ℕ → List ℕ → List ℕ → ℕ → Verdict
+translateVerdict r storage keys kind =
+    refuse 1 (wrongLength r)
+    (refuse 2 (wrongVersion r)
+    (refuse 3 (wrongStorage storage)
+    (refuse 4 (wrongKeys storage keys) (refuse 7 (reservedUsed r) (refuse 8 (wrongAccess kind) Accepted)))))
+
+unfoldable pub runVerdict : Numbers → List ℕ → List ℕ → List ℕ → Verdict
+runVerdict n r storage keys =
+    refuse 1 (wrongLength r)
+    (refuse 2 (wrongVersion r)
+    (refuse 3 (wrongStorage storage)
+    (refuse 4 (wrongKeys storage keys)
+    (refuse 5 (wrongBudget n) (refuse 6 (wrongTime n) (refuse 7 (reservedUsed r) Accepted))))))

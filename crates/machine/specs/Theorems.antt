@@ -1,0 +1,163 @@
+-- What is proved of the definition, beside the worked examples and demand 3. Each statement is a type here; its proof is in proofs/.
+use Prim.Native.Nat.{ℕ, _+_, _-_, _*_, _%_, _^_, _≤_, _<_}
+use mathlib.Core.Path.{_≡_}
+use mathlib.Core.Bool.{true}
+use mathlib.Core.List.{List}
+use mathlib.Core.Logic.{_⊎_}
+use lib.ListN.{length}
+use Rattle.machine.specs.declared.Answer.{Answer}
+use Rattle.machine.specs.declared.Answer.the-variants.{Ended, Refused}
+use Rattle.machine.specs.declared.Class.the-variants.{Spt}
+use Rattle.machine.specs.declared.Cpu.{Cpu}
+use Rattle.machine.specs.declared.End.{End}
+use Rattle.machine.specs.declared.End.the-variants.{Intercepted, HostFault, BudgetUsed}
+use Rattle.machine.specs.declared.Failure.{Failure}
+use Rattle.machine.specs.declared.Guest.{Guest}
+use Rattle.machine.specs.declared.Numbers.{Numbers}
+use Rattle.machine.specs.declared.Reason.the-variants.{Stop}
+use Rattle.machine.specs.declared.Verdict.the-variants.{Accepted}
+use Rattle.machine.specs.declared.Walk.the-variants.{Failed}
+use Rattle.machine.specs.Words.{byteAt, halfAt, doubleAt}
+use Rattle.machine.specs.Record.{recordLength, recordVersion, pswAt, timerAt, resultsAt, controlAt, guestOf, cpuOf}
+use Rattle.machine.specs.Refusals.{frameBytes, mostFrames, mostUnits, mostTime, checkVerdict, translateVerdict, runVerdict}
+use Rattle.machine.specs.Entry.{extentBytes, entryGood}
+use Rattle.machine.specs.Psw.{wrap}
+use Rattle.machine.specs.Time.{guestClock, comparatorDue}
+use Rattle.machine.specs.Failures.{addressing, exceptionOf}
+use Rattle.machine.specs.Host.{Host, Located, hostVirtual, hostPage, backing, view}
+use Rattle.machine.specs.Addresses.{denied, access, all}
+use Rattle.machine.specs.Opcodes.{opcodeOf}
+use Rattle.machine.specs.Outcomes.{Progress}
+use Rattle.machine.specs.Interruptions.{exception}
+use Rattle.machine.specs.Execute.{storing}
+use Rattle.machine.specs.Units.{halfword, halfOf, started, stopRequested}
+use Rattle.machine.specs.Run.{Machine, ends, step, hostOf, run}
+use Rattle.machine.specs.Operations.{Result, machineOf, runOf}
+
+-- the numbers with another budget
+abbrev pub withBudget : Numbers → ℕ → Numbers
+withBudget n budget = record { designation = n .designation; clock = n .clock; time = n .time; budget = budget }
+
+-- a record, a storage and keys that no refusal names
+pub record GoodInput (r storage keys : List ℕ) : Type 0 where
+  pub long : length r ≡ recordLength
+  pub lengthField : halfAt r 0 ≡ recordLength
+  pub version : byteAt r 2 ≡ recordVersion
+  pub reserved : (i : ℕ) → 66 ≤ i → i < 72 → byteAt r i ≡ 0
+  pub frames : ℕ
+  pub some : 0 < frames
+  pub few : frames ≤ mostFrames
+  pub whole : length storage ≡ frames * frameBytes
+  pub eachKey : length keys ≡ frames
+
+-- good input is not refused
+pub record GoodInputIsAccepted : Type 0 where
+  pub byCheck : (r storage keys : List ℕ) → GoodInput r storage keys → checkVerdict r ≡ Accepted
+  pub byTranslate : (r storage keys : List ℕ) (kind : ℕ) → GoodInput r storage keys → kind ≤ 2 → translateVerdict r storage keys kind ≡ Accepted
+  pub byRun : (n : Numbers) (r storage keys : List ℕ) → GoodInput r storage keys → n .budget ≤ mostUnits → n .time ≤ mostTime
+      → runVerdict n r storage keys ≡ Accepted
+
+-- on a good entry a run with budget 0 uses its budget, and one with a stop request and a budget is stopped
+pub record BudgetAndStopDiffer : Type 0 where
+  pub noBudget : (n : Numbers) (r storage keys : List ℕ) → runVerdict (withBudget n 0) r storage keys ≡ Accepted → entryGood (guestOf r) ≡ true
+      → (runOf (withBudget n 0) r storage keys) .answer ≡ Ended BudgetUsed 0
+  pub stopped : (n : Numbers) (r storage keys : List ℕ) → runVerdict n r storage keys ≡ Accepted → entryGood (guestOf r) ≡ true → 0 < n .budget
+      → stopRequested (guestOf r) ≡ true → (runOf n r storage keys) .answer ≡ Ended (Intercepted Stop) 0
+
+-- units counted on top of an answer's own
+abbrev pub onTopOf : ℕ → Answer → Answer
+onTopOf units (Refused number) = Refused number
+onTopOf units (Ended end more) = Ended end (units + more)
+
+-- the numbers with which a run is resumed after so many units
+abbrev pub resumedWith : Numbers → ℕ → ℕ → Numbers
+resumedWith n units budget = record {
+  designation = n .designation;
+  clock = (n .clock + units * n .time) % 2 ^ 64;
+  time = n .time;
+  budget = budget;
+}
+
+-- a run of budget `b` from what a first run of budget `a` left, where that used its budget; else the first run itself
+abbrev pub resumedFrom : Numbers → ℕ → ℕ → Result → Answer → Result
+resumedFrom n a b first (Refused number) = first
+resumedFrom n a b first (Ended (Intercepted reason) units) = first
+resumedFrom n a b first (Ended (HostFault failure) units) = first
+resumedFrom n a b first (Ended BudgetUsed units) = record {
+  answer = onTopOf units (second .answer);
+  description = second .description;
+  storage = second .storage;
+  keys = second .keys;
+}
+  where
+    second : Result
+    second = runOf (resumedWith n a b) (first .description) (first .storage) (first .keys)
+
+-- RESUMPTION: a run of budget a + b is a run of budget a and then, where that used its budget, a run of budget b from the record, the
+-- storage and the keys that it left, with the host clock advanced by a times the time
+abbrev pub Resumption : Type 0
+Resumption = (n : Numbers) (a b : ℕ) (r storage keys : List ℕ) → n .clock < 2 ^ 64 → a + b ≤ mostUnits
+    → runOf (withBudget n (a + b)) r storage keys
+    ≡ resumedFrom n a b (runOf (withBudget n a) r storage keys) ((runOf (withBudget n a) r storage keys) .answer)
+
+-- the instruction at the PSW's address is SPT
+pub record AtSpt (n : Numbers) (m : Machine) : Type 0 where
+  pub text : List Located
+  pub read : halfword (started (guestOf (m .description)) (m .clock) (view (guestOf (m .description)) (hostOf n m)) (cpuOf (m .description)) 1) 0 ≡ all text
+  pub class : (opcodeOf (halfOf text)) .class ≡ Spt
+
+-- THE TIMER: where none of the completed units starts at an SPT, the CPU timer has fallen by the time per unit, once for each of them,
+-- however the run ended
+abbrev pub TimerFalls : Type 0
+TimerFalls = (n : Numbers) (r storage keys : List ℕ) (end : End) (units : ℕ) → doubleAt r timerAt < 2 ^ 64
+    → (runOf n r storage keys) .answer ≡ Ended end units
+    → ((i : ℕ) → i < units → AtSpt n ((run i n (machineOf n r storage keys)) .machine) → ⊥)
+    → doubleAt ((runOf n r storage keys) .description) timerAt ≡ (doubleAt r timerAt + units * (2 ^ 64 - n .time)) % 2 ^ 64
+
+-- an exit is no unit: it charges no time, stores nothing and marks nothing
+pub record Uncharged (before after : Machine) : Type 0 where
+  pub timer : doubleAt (after .description) timerAt ≡ doubleAt (before .description) timerAt
+  pub clock : after .clock ≡ before .clock
+  pub storage : after .storage ≡ before .storage
+  pub keys : after .keys ≡ before .keys
+
+abbrev pub ExitChargesNothing : Type 0
+ExitChargesNothing = (n : Numbers) (m after : Machine) (end : End) → length (m .description) ≡ recordLength
+    → doubleAt (m .description) timerAt < 2 ^ 64 → step n m ≡ ends end after → Uncharged m after
+
+-- a host fault leaves what the run of just the completed units leaves
+abbrev pub HostFaultUndoesItsUnit : Type 0
+HostFaultUndoesItsUnit = (n : Numbers) (r storage keys : List ℕ) (f : Failure) (units : ℕ)
+    → (runOf n r storage keys) .answer ≡ Ended (HostFault f) units
+    → ((runOf n r storage keys) .description ≡ (runOf (withBudget n units) r storage keys) .description)
+    × ((runOf n r storage keys) .storage ≡ (runOf (withBudget n units) r storage keys) .storage)
+    × ((runOf n r storage keys) .keys ≡ (runOf (withBudget n units) r storage keys) .keys)
+
+-- the unit count never exceeds the budget
+abbrev pub UnitsWithinBudget : Type 0
+UnitsWithinBudget = (n : Numbers) (r storage keys : List ℕ) (end : End) (units : ℕ)
+    → (runOf n r storage keys) .answer ≡ Ended end units → units ≤ n .budget
+
+-- lengths are kept
+pub record LengthsKept : Type 0 where
+  pub ofRecord : (n : Numbers) (r storage keys : List ℕ) → length ((runOf n r storage keys) .description) ≡ length r
+  pub ofStorage : (n : Numbers) (r storage keys : List ℕ) → length ((runOf n r storage keys) .storage) ≡ length storage
+  pub ofKeys : (n : Numbers) (r storage keys : List ℕ) → length ((runOf n r storage keys) .keys) ≡ length keys
+
+-- a byte of the record that no rule names: not of the PSW, the CPU timer, the results or the registers
+abbrev pub Unnamed : ℕ → Type 0
+Unnamed i = (i < pswAt) ⊎ ((timerAt + 8 ≤ i) × (i < resultsAt)) ⊎ ((resultsAt + 14 ≤ i) × (i < controlAt))
+
+-- every such byte is kept, V (byte 3) among them
+abbrev pub BytesKept : Type 0
+BytesKept = (n : Numbers) (r storage keys : List ℕ) (i : ℕ) → Unnamed i → byteAt ((runOf n r storage keys) .description) i ≡ byteAt r i
+
+-- Slips that the definition does not make: a store is an exception where any of its bytes is denied, on whichever page; the extent is
+-- tested before the origin is added; clocks are compared unsigned.
+pub record SlipsRuledOut : Type 0 where
+  pub everyByteIsChecked : (x : Progress) (a i : ℕ) (bytes : List ℕ) (c : Cpu) (f : Failure) → i < length bytes
+      → access (x .guest) (x .view) (x .cpu) true (wrap (x .cpu) (a + i)) ≡ denied f
+      → (first : Failure) × (storing x a bytes c ≡ exception x (x .cpu) first)
+  pub extentBeforeOrigin : (g : Guest) (h : Host) (a : ℕ) → a < extentBytes g → backing g h a ≡ hostPage h (hostVirtual g a)
+  pub pastTheExtent : (g : Guest) (h : Host) (a : ℕ) → extentBytes g ≤ a → backing g h a ≡ Failed (exceptionOf addressing)
+  pub clocksAreUnsigned : (g : Guest) (clock : ℕ) → g .comparator < guestClock g clock → comparatorDue g clock ≡ true
