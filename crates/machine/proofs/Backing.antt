@@ -10,13 +10,15 @@ use lib.Dec.{leb, ltb}
 use lib.ListN.{length, getD}
 use Rattle.machine.specs.declared.Failure.{Failure}
 use Rattle.machine.specs.declared.Guest.{Guest}
+use Rattle.machine.specs.declared.TableEntry.{TableEntry}
+use Rattle.machine.specs.declared.TableEntry.the-variants.{Word, Unread}
 use Rattle.machine.specs.declared.Walk.{Walk}
 use Rattle.machine.specs.declared.Walk.the-variants.{Page, Failed}
 use Rattle.machine.specs.Words.{byteAt, wordAt}
 use Rattle.machine.specs.Refusals.{frameBytes, framesOf}
 use Rattle.machine.specs.Entry.{entryGood, extentBytes}
 use Rattle.machine.specs.Failures.{addressing, segmentTranslation, hostFault}
-use Rattle.machine.specs.Walk.{Entry, entry, unread, frameOf, pageProtected, pastSegmentTable, walk, walkSegment, walkPage}
+use Rattle.machine.specs.Walk.{frameOf, pageProtected, pastSegmentTable, walk, walkSegment, walkPage}
 use Rattle.machine.specs.Host.{Host, host, hostVirtual, hostEntry, inStorage, hostPage, backing, inFrame, cellOf, view}
 use Rattle.machine.specs.Frames.{InExtent, segmentPlace, segmentOf, pagePlace, pageOf, SegmentInReach, ValidPage, Describes, GuestFrame}
 use Rattle.machine.proofs.Laws.{word-of-bytes}
@@ -28,7 +30,7 @@ pub record SameEntries (g : Guest) (d : ℕ) (s₁ s₂ : List ℕ) : Type 0 whe
   pub entries : (at i : ℕ) → Describes g d s₁ at → at ≤ i → i < at + 4 → byteAt s₁ i ≡ byteAt s₂ i
 
 -- the walk, by the number of the page
-walk-by-page : (read : ℕ → Entry) (fail : ℕ → Failure) (d v : ℕ)
+walk-by-page : (read : ℕ → TableEntry) (fail : ℕ → Failure) (d v : ℕ)
     → walk read fail d v
     ≡ cond (pastSegmentTable d (v / 4096 / 256)) (Failed (fail segmentTranslation)) (walkSegment read fail (v / 4096 % 256) (read (segmentPlace d (v / 4096))))
 unfolding walk
@@ -38,11 +40,11 @@ page-in-extent : (g : Guest) (a : ℕ) → ltb a (extentBytes g) ≡ true → In
 page-in-extent g a e = let h : a < extentBytes g = ltb-true _ _ e in record { low = omega arith; high = omega arith }
 
 -- what holds of a host entry that is read and of one that is not holds of each
-read-or-not : (P : Entry → Type 0) (s : List ℕ) (v at : ℕ) → (at + 4 ≤ length s → P (entry (wordAt s at))) → P (unread (hostFault v addressing)) → P (hostEntry s v at)
+read-or-not : (P : TableEntry → Type 0) (s : List ℕ) (v at : ℕ) → (at + 4 ≤ length s → P (Word (wordAt s at))) → P (Unread (hostFault v addressing)) → P (hostEntry s v at)
 unfolding hostEntry
 read-or-not P s v at can cannot = go (leb (at + 4) (length s)) refl
   where
-    go : (b : Bool) → leb (at + 4) (length s) ≡ b → P (cond b (entry (wordAt s at)) (unread (hostFault v addressing)))
+    go : (b : Bool) → leb (at + 4) (length s) ≡ b → P (cond b (Word (wordAt s at)) (Unread (hostFault v addressing)))
     go true e = can (leb-true _ _ e)
     go false e = cannot
 
@@ -56,12 +58,12 @@ module _ (g : Guest) (d : ℕ) (s₁ s₂ : List ℕ) (same : SameEntries g d s�
   unfolding hostEntry
   same-entry v at describes =
       rw (← same .lengths)
-      (same-test (leb (at + 4) (length s₁)) (λ e. ap entry (word-of-bytes s₁ s₂ at λ i low high. same .entries at i (describes (leb-true _ _ e)) low high)) (λ _. refl))
+      (same-test (leb (at + 4) (length s₁)) (λ e. ap Word (word-of-bytes s₁ s₂ at λ i low high. same .entries at i (describes (leb-true _ _ e)) low high)) (λ _. refl))
 
   -- the page entry of a segment entry that the walk has read
   same-page : (v : ℕ) → InExtent g (v / 4096) → SegmentInReach d s₁ (v / 4096)
-      → walkSegment (hostEntry s₁ v) (hostFault v) (v / 4096 % 256) (entry (segmentOf d s₁ (v / 4096)))
-      ≡ walkSegment (hostEntry s₂ v) (hostFault v) (v / 4096 % 256) (entry (segmentOf d s₁ (v / 4096)))
+      → walkSegment (hostEntry s₁ v) (hostFault v) (v / 4096 % 256) (Word (segmentOf d s₁ (v / 4096)))
+      ≡ walkSegment (hostEntry s₂ v) (hostFault v) (v / 4096 % 256) (Word (segmentOf d s₁ (v / 4096)))
   unfolding walkSegment
   same-page v inside segment =
       same-test _ (λ _. refl) λ valid. same-test _ (λ _. refl) λ formed. same-test _ (λ _. refl) λ inTable.

@@ -13,6 +13,7 @@ use Rattle.machine.specs.declared.Class.the-variants.{Ar}
 use Rattle.machine.specs.declared.Cpu.{Cpu}
 use Rattle.machine.specs.declared.Guest.{Guest}
 use Rattle.machine.specs.declared.Translated.the-variants as translated
+use Rattle.machine.specs.declared.TableEntry.the-variants.{Word}
 use Rattle.machine.specs.declared.Walk.{Walk}
 use Rattle.machine.specs.declared.Walk.the-variants.{Page, Failed}
 use Rattle.machine.specs.Words.{bits, wordAt}
@@ -22,7 +23,7 @@ use Rattle.machine.specs.Entry.{modeInstalled, extentFits, prefixFits, e
 use Rattle.machine.specs.Psw.{datOn, conditionCode, overflowEnabled, wrap, withPsw, withTimer, control, general, withGeneral, withAddress, advanced, withConditionCode}
 use Rattle.machine.specs.Time.{guestClock, comparatorDue, timerDue, timerAfter, charged}
 use Rattle.machine.specs.Failures.{segmentTranslation, pageTranslation, addressing, hostFault, exceptionOf, walkException}
-use Rattle.machine.specs.Walk.{entry, walkPage, walkSegment, walk}
+use Rattle.machine.specs.Walk.{walkPage, walkSegment, walk}
 use Rattle.machine.specs.Host.{Host, Cell, hostEntry, inStorage, hostPage, backing, cellOf, view}
 use Rattle.machine.specs.Addresses.{prefixed, formatGood, realPage, settle, keyProtects, inPage, access, denied}
 use Rattle.machine.specs.Outcomes.{Effects, completed, Progress}
@@ -56,13 +57,13 @@ module _ (r : List ℕ) (h : Host) (s : Setup r h) where
       (go (backing (guestOf r) h a) refl)
     where
       go : (w : Walk) → backing (guestOf r) h a ≡ w
-          → translatedTo r h (settle (guestOf r) false (keyProtects (cpuOf r) false) a (cellOf h a w)) ≡ addressIn a w
+          → translatedTo (guestOf r) h (settle (guestOf r) false (keyProtects (cpuOf r) false) a (cellOf h a w)) ≡ addressIn a w
       go (Failed f) e = refl
       go (Page frame protected) e = rw (s .key, e)
 
   -- in the one block of the guest, the word of the page's entry decides
   fetched-in-block : (a w : ℕ) → a < 65536 → wordAt (h .storage) (8192 + a / 4096 * 4) ≡ w
-      → translate r h a 0 ≡ addressIn a (inStorage (h .storage) a (walkPage (hostFault a) (entry w)))
+      → translate r h a 0 ≡ addressIn a (inStorage (h .storage) a (walkPage (hostFault a) (Word w)))
   unfolding backing hostPage walk walkSegment hostEntry
   fetched-in-block a w inside word =
       let segment : a / 1048576 ≡ 0 = omega arith in

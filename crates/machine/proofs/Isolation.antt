@@ -6,6 +6,7 @@ use mathlib.Core.List.{List}
 use mathlib.Core.Logic.{_↔_}
 use Rattle.machine.specs.declared.Answer.the-variants as answer
 use Rattle.machine.specs.declared.End.the-variants.{Intercepted}
+use Rattle.machine.specs.declared.Guest.{Guest}
 use Rattle.machine.specs.declared.Numbers.{Numbers}
 use Rattle.machine.specs.declared.Reason.the-variants.{Validity}
 use Rattle.machine.specs.declared.Verdict.{Verdict}
@@ -137,16 +138,16 @@ same-frames n r s₁ k₁ s₂ k₂ agree f = (
         → backing (guestOf r) (host (n .designation) s₁ k₁) ≡ backing (guestOf r) (host (n .designation) s₂ k₂)
     pages accepted good = same-backing (guestOf r) (n .designation) s₁ s₂ (same-start n r s₁ k₁ s₂ k₂ agree accepted) good k₁ k₂
 
-same-translated : (r : List ℕ) (h₁ h₂ : Host) → backing (guestOf r) h₁ ≡ backing (guestOf r) h₂ → (x : Access) → translatedTo r h₁ x ≡ translatedTo r h₂ x
+same-translated : (g : Guest) (h₁ h₂ : Host) → backing g h₁ ≡ backing g h₂ → (x : Access) → translatedTo g h₁ x ≡ translatedTo g h₂ x
 unfolding translatedTo
-same-translated r h₁ h₂ pages (denied f) = refl
-same-translated r h₁ h₂ pages (reached l) = ap (λ behind. addressIn (l .absolute) (behind (l .absolute))) pages
+same-translated g h₁ h₂ pages (denied f) = refl
+same-translated g h₁ h₂ pages (reached l) = ap (λ behind. addressIn (l .absolute) (behind (l .absolute))) pages
 
 module _ (r : List ℕ) (kind d : ℕ) (s₁ k₁ s₂ k₂ : List ℕ) (agree : TranslationsAgree r kind d s₁ k₁ s₂ k₂) where
   same-translation : (a : ℕ) (v : Verdict) → translateVerdict r s₁ k₁ kind ≡ v → translatedAs r (host d s₁ k₁) a kind v ≡ translatedAs r (host d s₂ k₂) a kind v
   unfolding translatedAs
   same-translation a (Refused number) e = refl
-  same-translation a Accepted accepted = same-test (entryGood (guestOf r)) (λ good. rw (views good) (same-translated r _ _ (pages good) _)) (λ _. refl)
+  same-translation a Accepted accepted = same-test (entryGood (guestOf r)) (λ good. rw (views good) (same-translated (guestOf r) _ _ (pages good) _)) (λ _. refl)
     where
       pages : entryGood (guestOf r) ≡ true → backing (guestOf r) (host d s₁ k₁) ≡ backing (guestOf r) (host d s₂ k₂)
       pages good = same-backing (guestOf r) d s₁ s₂ (record { lengths = agree .lengths .0; entries = agree .entries accepted }) good k₁ k₂

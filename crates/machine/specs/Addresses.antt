@@ -6,13 +6,15 @@ use lib.Dec.{eqb, ltb}
 use Rattle.machine.specs.declared.Cpu.{Cpu}
 use Rattle.machine.specs.declared.Failure.{Failure}
 use Rattle.machine.specs.declared.Guest.{Guest}
+use Rattle.machine.specs.declared.TableEntry.{TableEntry}
+use Rattle.machine.specs.declared.TableEntry.the-variants.{Word, Unread}
 use Rattle.machine.specs.declared.Walk.{Walk}
 use Rattle.machine.specs.declared.Walk.the-variants.{Page, Failed}
 use Rattle.machine.specs.Words.{bits, bit, wordAt}
 use Rattle.machine.specs.Entry.{pageBytes}
 use Rattle.machine.specs.Psw.{datOn, accessKey, wrap, control}
 use Rattle.machine.specs.Failures.{protection, translationSpecification, hostFault, exceptionOf, walkException}
-use Rattle.machine.specs.Walk.{Entry, entry, unread, walk}
+use Rattle.machine.specs.Walk.{walk}
 use Rattle.machine.specs.Host.{Cell, absent, present, Located, hostVirtual}
 
 -- prefixing exchanges real block 0 and the prefix block
@@ -27,12 +29,12 @@ byteOf (absent f) = 0
 byteOf (present byte key protected) = byte
 
 -- the word of a guest table that starts at a guest absolute address, its first byte's cell given. Keys do not guard table reads.
-unfoldable pub entryOf : (ℕ → Cell) → ℕ → Cell → Entry
-entryOf v a (absent f) = unread f
-entryOf v a (present byte key protected) = entry (wordAt (byte ∷ byteOf (v (a + 1)) ∷ byteOf (v (a + 2)) ∷ byteOf (v (a + 3)) ∷ []) 0)
+unfoldable pub entryOf : (ℕ → Cell) → ℕ → Cell → TableEntry
+entryOf v a (absent f) = Unread f
+entryOf v a (present byte key protected) = Word (wordAt (byte ∷ byteOf (v (a + 1)) ∷ byteOf (v (a + 2)) ∷ byteOf (v (a + 3)) ∷ []) 0)
 
 -- the entry at a guest real address: past the extent it is addressing, with no wrap
-unfoldable pub guestEntry : Guest → (ℕ → Cell) → ℕ → Entry
+unfoldable pub guestEntry : Guest → (ℕ → Cell) → ℕ → TableEntry
 guestEntry g v real = entryOf v (prefixed g real) (v (prefixed g real))
 
 -- CR0 bits 8-12 are 10110

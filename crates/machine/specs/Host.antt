@@ -7,13 +7,15 @@ use lib.Dec.{leb, ltb}
 use lib.ListN.{length, getD, set}
 use Rattle.machine.specs.declared.Failure.{Failure}
 use Rattle.machine.specs.declared.Guest.{Guest}
+use Rattle.machine.specs.declared.TableEntry.{TableEntry}
+use Rattle.machine.specs.declared.TableEntry.the-variants.{Word, Unread}
 use Rattle.machine.specs.declared.Walk.{Walk}
 use Rattle.machine.specs.declared.Walk.the-variants.{Page, Failed}
 use Rattle.machine.specs.Words.{bit, byteAt, wordAt}
 use Rattle.machine.specs.Refusals.{frameBytes, framesOf}
 use Rattle.machine.specs.Entry.{blockBytes, extentBytes}
 use Rattle.machine.specs.Failures.{addressing, hostFault, exceptionOf}
-use Rattle.machine.specs.Walk.{Entry, entry, unread, walk}
+use Rattle.machine.specs.Walk.{walk}
 
 pub record Host : Type 0 where
   pub designation : ℕ
@@ -28,8 +30,8 @@ abbrev pub hostVirtual : Guest → ℕ → ℕ
 hostVirtual g a = g .origin * blockBytes + a
 
 -- the host table entry at a host absolute address, for the host virtual address `a`; beyond the storage it is host fault 5
-unfoldable pub hostEntry : List ℕ → ℕ → ℕ → Entry
-hostEntry storage a at = cond (leb (at + 4) (length storage)) (entry (wordAt storage at)) (unread (hostFault a addressing))
+unfoldable pub hostEntry : List ℕ → ℕ → ℕ → TableEntry
+hostEntry storage a at = cond (leb (at + 4) (length storage)) (Word (wordAt storage at)) (Unread (hostFault a addressing))
 
 -- a frame beyond the storage is host fault 5
 unfoldable pub inStorage : List ℕ → ℕ → Walk → Walk

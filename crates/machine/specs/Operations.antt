@@ -8,6 +8,7 @@ use Rattle.machine.specs.declared.Answer.the-variants as answer
 use Rattle.machine.specs.declared.Checked.{Checked}
 use Rattle.machine.specs.declared.Checked.the-variants as checked
 use Rattle.machine.specs.declared.End.the-variants.{Intercepted, BudgetUsed}
+use Rattle.machine.specs.declared.Guest.{Guest}
 use Rattle.machine.specs.declared.Numbers.{Numbers}
 use Rattle.machine.specs.declared.Reason.the-variants.{Validity}
 use Rattle.machine.specs.declared.Translated.{Translated}
@@ -43,16 +44,16 @@ addressIn a (Failed f) = translated.Failed f
 addressIn a (Page frame protected) = translated.Address (inFrame frame a)
 
 -- a byte that is reached lies in a frame, or its access would have failed
-unfoldable pub translatedTo : List ℕ → Host → Access → Translated
-translatedTo r h (denied f) = translated.Failed f
-translatedTo r h (reached l) = addressIn (l .absolute) (backing (guestOf r) h (l .absolute))
+unfoldable pub translatedTo : Guest → Host → Access → Translated
+translatedTo g h (denied f) = translated.Failed f
+translatedTo g h (reached l) = addressIn (l .absolute) (backing g h (l .absolute))
 
 -- kind 1 is a store; kinds 0 and 2, fetches, are tested alike
 unfoldable pub translatedAs : List ℕ → Host → ℕ → ℕ → Verdict → Translated
 translatedAs r h a kind (Refused number) = translated.Refused number
 translatedAs r h a kind Accepted =
     cond (entryGood (guestOf r))
-    (translatedTo r h (access (guestOf r) (view (guestOf r) h) (cpuOf r) (eqb kind 1) (wrap (cpuOf r) a)))
+    (translatedTo (guestOf r) h (access (guestOf r) (view (guestOf r) h) (cpuOf r) (eqb kind 1) (wrap (cpuOf r) a)))
     translated.Validity
 
 -- takes any 32-bit address

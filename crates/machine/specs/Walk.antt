@@ -4,6 +4,8 @@ use Prim.Native.Nat.{ℕ, _+_, _*_, _/_, _%_}
 use mathlib.Core.Bool.{Bool, cond, _||_}
 use lib.Dec.{ltb}
 use Rattle.machine.specs.declared.Failure.{Failure}
+use Rattle.machine.specs.declared.TableEntry.{TableEntry}
+use Rattle.machine.specs.declared.TableEntry.the-variants.{Word, Unread}
 use Rattle.machine.specs.declared.Walk.{Walk}
 use Rattle.machine.specs.declared.Walk.the-variants.{Page, Failed}
 use Rattle.machine.specs.Words.{bits, bit}
@@ -55,28 +57,23 @@ pageProtected e = bit 32 22 e
 abbrev pub pageMalformed : ℕ → Bool
 pageMalformed e = bit 32 0 e || bit 32 20 e || bit 32 23 e
 
--- a table entry, or why it cannot be read
-pub data Entry : Type 0 where
-  entry : ℕ → Entry
-  unread : Failure → Entry
-
 -- the page entry, once read
-unfoldable pub walkPage : (ℕ → Failure) → Entry → Walk
-walkPage fail (unread f) = Failed f
-walkPage fail (entry e) =
+unfoldable pub walkPage : (ℕ → Failure) → TableEntry → Walk
+walkPage fail (Unread f) = Failed f
+walkPage fail (Word e) =
     cond (pageInvalid e) (Failed (fail pageTranslation))
     (cond (pageMalformed e) (Failed (fail translationSpecification)) (Page (frameOf e) (pageProtected e)))
 
 -- the segment entry, once read, for a page index
-unfoldable pub walkSegment : (ℕ → Entry) → (ℕ → Failure) → ℕ → Entry → Walk
-walkSegment read fail index (unread f) = Failed f
-walkSegment read fail index (entry e) =
+unfoldable pub walkSegment : (ℕ → TableEntry) → (ℕ → Failure) → ℕ → TableEntry → Walk
+walkSegment read fail index (Unread f) = Failed f
+walkSegment read fail index (Word e) =
     cond (segmentInvalid e) (Failed (fail segmentTranslation))
     (cond (segmentMalformed e) (Failed (fail translationSpecification))
     (cond (pastPageTable e index) (Failed (fail pageTranslation)) (walkPage fail (read (pageEntryAt e index)))))
 
 -- the walk for an address: `read` reads an entry, and `fail` makes a failure of a code
-unfoldable pub walk : (ℕ → Entry) → (ℕ → Failure) → ℕ → ℕ → Walk
+unfoldable pub walk : (ℕ → TableEntry) → (ℕ → Failure) → ℕ → ℕ → Walk
 walk read fail designation a =
     cond (pastSegmentTable designation (segmentIndex a)) (Failed (fail segmentTranslation))
     (walkSegment read fail (pageIndex a) (read (segmentEntryAt designation (segmentIndex a))))

@@ -55,6 +55,12 @@ pub struct Failure {
     pub address: u32,
 }
 
+// A table entry, or why it cannot be read.
+pub enum TableEntry {
+    Word(u32),
+    Unread(Failure),
+}
+
 // What a walk of a segment and a page table finds.
 pub enum Walk {
     Page { frame: u32, protected: bool },
