@@ -1,4 +1,5 @@
 -- Proofs of the statements of specs/Examples, specs/Theorems and specs/Isolation, and the laws that they share.
+pub mod Tests
 pub mod Laws
 pub mod Verdicts
 pub mod Runs
@@ -13,3 +14,4 @@ pub mod Backing
 pub mod Effects
 pub mod Twins
 pub mod Isolation
+pub mod IsolationIsNotEmpty

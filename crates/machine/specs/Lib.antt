@@ -22,3 +22,4 @@ pub mod Theorems
 pub mod Isolation
 pub mod IsolationOfAnswers
 pub mod Examples
+pub mod IsolationIsNotEmpty
