@@ -30,7 +30,7 @@ pub record SameEntries (g : Guest) (d : ℕ) (s₁ s₂ : List ℕ) : Type 0 whe
   pub entries : (at i : ℕ) → Describes g d s₁ at → at ≤ i → i < at + 4 → byteAt s₁ i ≡ byteAt s₂ i
 
 -- the walk, by the number of the page
-walk-by-page : (read : ℕ → TableEntry) (fail : ℕ → Failure) (d v : ℕ)
+pub walk-by-page : (read : ℕ → TableEntry) (fail : ℕ → Failure) (d v : ℕ)
     → walk read fail d v
     ≡ cond (pastSegmentTable d (v / 4096 / 256)) (Failed (fail segmentTranslation)) (walkSegment read fail (v / 4096 % 256) (read (segmentPlace d (v / 4096))))
 unfolding walk
@@ -100,11 +100,11 @@ module _ (g : Guest) (d : ℕ) (s₁ s₂ : List ℕ) (same : SameEntries g d s�
       (λ _. refl)
 
 -- a page is no failure
-no-failure : {R : Type 0} {x : Failure} {f : ℕ} {p : Bool} → Failed x ≡ Page f p → R
+pub no-failure : {R : Type 0} {x : Failure} {f : ℕ} {p : Bool} → Failed x ≡ Page f p → R
 no-failure e = let z : _≡_ {A = ℕ} 0 1 = cc in absurd (omega arith)
 
 -- a test whose outcome is a page, case by case
-tested : {R : Type 0} {f : ℕ} {p : Bool} (b : Bool) {u v : Walk} → (b ≡ true → u ≡ Page f p → R) → (b ≡ false → v ≡ Page f p → R) → cond b u v ≡ Page f p → R
+pub tested : {R : Type 0} {f : ℕ} {p : Bool} (b : Bool) {u v : Walk} → (b ≡ true → u ≡ Page f p → R) → (b ≡ false → v ≡ Page f p → R) → cond b u v ≡ Page f p → R
 tested true u v e = u refl e
 tested false u v e = v refl e
 
@@ -113,7 +113,7 @@ abbrev EndsAt : ℕ → List ℕ → ℕ → ℕ → Type 0
 EndsAt d s page f = ValidPage d s page × (frameOf (pageOf d s page) ≡ f)
 
 module _ (d : ℕ) (s : List ℕ) where
-  ends-at-page : (v : ℕ) {f : ℕ} {p : Bool} → walk (hostEntry s v) (hostFault v) d v ≡ Page f p → EndsAt d s (v / 4096) f
+  pub ends-at-page : (v : ℕ) {f : ℕ} {p : Bool} → walk (hostEntry s v) (hostFault v) d v ≡ Page f p → EndsAt d s (v / 4096) f
   unfolding walkSegment walkPage
   ends-at-page v {f} {p} e =
       tested _ (λ _. no-failure)
@@ -138,7 +138,7 @@ module _ (d : ℕ) (s : List ℕ) where
       no-failure)
       (rw walk-by-page at e)
 
-  finds-page : (v : ℕ) → ValidPage d s (v / 4096)
+  pub finds-page : (v : ℕ) → ValidPage d s (v / 4096)
       → walk (hostEntry s v) (hostFault v) d v ≡ Page (frameOf (pageOf d s (v / 4096))) (pageProtected (pageOf d s (v / 4096)))
   unfolding walkSegment walkPage hostEntry
   finds-page v valid =
@@ -154,7 +154,7 @@ module _ (d : ℕ) (s : List ℕ) where
         valid .formed,
       ))
 
-page-in-storage : (s : List ℕ) (v : ℕ) (w : Walk) {f : ℕ} {p : Bool} → inStorage s v w ≡ Page f p → (w ≡ Page f p) × (f < framesOf s)
+pub page-in-storage : (s : List ℕ) (v : ℕ) (w : Walk) {f : ℕ} {p : Bool} → inStorage s v w ≡ Page f p → (w ≡ Page f p) × (f < framesOf s)
 unfolding inStorage
 page-in-storage s v (Failed x) e = no-failure e
 page-in-storage s v (Page f₁ p₁) {f} {p} e =

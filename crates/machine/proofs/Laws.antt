@@ -35,7 +35,7 @@ module _ {ℓ} {A : Type ℓ} where
       rw e (getD-sets-inside (set l at v) (suc at) vs k d (omega arith) (omega (arith, length-set l at v)))
 
   -- a store commutes with a run of stores beside it
-  set-sets : (l : List A) (i : ℕ) (u : A) (at : ℕ) (vs : List A) → (i < at) ⊎ (at + length vs ≤ i) → set (sets l at vs) i u ≡ sets (set l i u) at vs
+  pub set-sets : (l : List A) (i : ℕ) (u : A) (at : ℕ) (vs : List A) → (i < at) ⊎ (at + length vs ≤ i) → set (sets l at vs) i u ≡ sets (set l i u) at vs
   set-sets l i u at [] h = refl
   set-sets l i u at (v ∷ vs) h =
       set-sets (set l at v) i u (suc at) vs (⊎-elim (λ b. inl (omega arith)) (λ b. inr (omega arith)) h)
@@ -104,10 +104,10 @@ double-of-sets l at vs long fits =
 
 -- the bytes of a number, read back
 
-half-value : (x : ℕ) → x / 256 % 256 * 256 + x % 256 ≡ x % 65536
+pub half-value : (x : ℕ) → x / 256 % 256 * 256 + x % 256 ≡ x % 65536
 half-value x = omega arith
 
-word-value : (x : ℕ) → x / 65536 % 65536 * 65536 + x % 65536 ≡ x % 2 ^ 32
+pub word-value : (x : ℕ) → x / 65536 % 65536 * 65536 + x % 65536 ≡ x % 2 ^ 32
 word-value x = omega arith
 
 double-value : (x : ℕ) → x / 2 ^ 32 % 2 ^ 32 * 2 ^ 32 + x % 2 ^ 32 ≡ x % 2 ^ 64

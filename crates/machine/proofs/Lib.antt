@@ -15,3 +15,7 @@ pub mod Effects
 pub mod Twins
 pub mod Isolation
 pub mod IsolationIsNotEmpty
+pub mod PageBytes
+pub mod Pages
+pub mod Words
+pub mod Lens

@@ -7,12 +7,12 @@ use mathlib.Core.Bool.{Bool, true, false, not, _&&_}
 use mathlib.Core.List.{List}
 use lib.Dec.{eqb}
 use lib.ListN.{length}
-use borrow.Author.Tests.{le-ltb, ltb-false, eqb-true}
+use borrow.Author.Tests.{le-ltb, ltb-false, eqb-true, not-false}
 use Rattle.machine.specs.declared.Numbers.{Numbers}
 use Rattle.machine.specs.declared.Verdict.{Verdict}
 use Rattle.machine.specs.declared.Verdict.the-variants.{Accepted}
 use Rattle.machine.specs.Record.{recordLength}
-use Rattle.machine.specs.Refusals.{mostUnits, wrongLength, wrongVersion, wrongStorage, wrongKeys, wrongBudget, wrongTime, reservedUsed, refuse, runVerdict}
+use Rattle.machine.specs.Refusals.{mostUnits, framesOf, wrongLength, wrongVersion, wrongStorage, wrongKeys, wrongBudget, wrongTime, reservedUsed, refuse, runVerdict}
 use Rattle.machine.specs.Theorems.{withBudget}
 use Rattle.machine.proofs.Laws.{SameBytes, word-of-bytes}
 
@@ -21,14 +21,24 @@ pub accepted-test : (number : ℕ) (test : Bool) (later : Verdict) → refuse nu
 accepted-test number true later e = (cc, cc)
 accepted-test number false later e = (refl, e)
 
+-- what the tests of lengths say where they fail
+
+pub length-of-right : (r : List ℕ) → wrongLength r ≡ false → length r ≡ recordLength
+unfolding wrongLength
+length-of-right r right = eqb-true (length r) recordLength (both (eqb (length r) recordLength) _ right)
+  where
+    both : (a b : Bool) → not (a && b) ≡ false → a ≡ true
+    both true b e = refl
+    both false b e = cc
+
+pub keys-of-right : (storage keys : List ℕ) → wrongKeys storage keys ≡ false → length keys ≡ framesOf storage
+unfolding wrongKeys
+keys-of-right storage keys right = eqb-true (length keys) (framesOf storage) (not-false _ right)
+
 module _ (n : Numbers) (r storage keys : List ℕ) (accepted : runVerdict n r storage keys ≡ Accepted) where
   pub accepted-length : length r ≡ recordLength
-  unfolding runVerdict wrongLength
-  accepted-length = eqb-true (length r) recordLength (both (eqb (length r) recordLength) _ (accepted-test 1 (wrongLength r) _ accepted .0))
-    where
-      both : (a b : Bool) → not (a && b) ≡ false → a ≡ true
-      both true b e = refl
-      both false b e = cc
+  unfolding runVerdict
+  accepted-length = length-of-right r (accepted-test 1 (wrongLength r) _ accepted .0)
 
   pub accepted-budget : n .budget ≤ mostUnits
   unfolding runVerdict wrongBudget

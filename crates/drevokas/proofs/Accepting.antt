@@ -1,0 +1,65 @@
+-- What accepted input and a good entry give the address path, and translate's answer from a byte's place.
+-- Assumes nothing.
+use Prim.Native.Nat.{ℕ, _≤_}
+use native.Mathlib.Omega.{arith}
+use mathlib.Core.Path.{_≡_, refl, ap}
+use mathlib.Core.Bool.{Bool, true, cond, _&&_}
+use mathlib.Core.List.{List}
+use lib.ListN.{length}
+use Rattle.machine.specs.declared.Cpu.{Cpu}
+use Rattle.machine.specs.declared.Guest.{Guest}
+use Rattle.machine.specs.declared.Verdict.the-variants.{Accepted}
+use Rattle.machine.specs.declared.Walk.{Walk}
+use Rattle.machine.specs.declared.Walk.the-variants.{Page, Failed}
+use Rattle.machine.specs.Refusals.{framesOf, wrongLength, wrongVersion, wrongStorage, wrongKeys, checkVerdict, translateVerdict}
+use Rattle.machine.specs.Entry.{entryGood}
+use Rattle.machine.specs.Psw.{wrap}
+use Rattle.machine.specs.Failures.{protection, exceptionOf}
+use Rattle.machine.specs.Host.{Host, backing, view}
+use Rattle.machine.specs.Addresses.{Access, reached, denied, formatGood, realPage, keyProtects, inPage, lowProtected, access}
+use Rattle.machine.specs.Operations.{addressIn, translatedTo}
+use Rattle.machine.proofs.Verdicts.{accepted-test, length-of-right, keys-of-right}
+use Rattle.storage.specs.Entered.{Entered}
+use Rattle.records.proofs.Entry.{entry-placed}
+use Rattle.address.specs.Touching.{seen, placed, touchedBy, touchOf}
+use Rattle.drevokas.specs.Packing.{answered}
+
+pub checked-length : (r : List ℕ) → checkVerdict r ≡ Accepted → length r ≡ 200
+unfolding checkVerdict
+checked-length r accepted = length-of-right r (accepted-test 1 (wrongLength r) _ accepted .0)
+
+module _ (r storage keys : List ℕ) (kind : ℕ) (accepted : translateVerdict r storage keys kind ≡ Accepted) where
+  pub translated-length : length r ≡ 200
+  unfolding translateVerdict
+  translated-length = length-of-right r (accepted-test 1 (wrongLength r) _ accepted .0)
+
+  pub translated-keys : framesOf storage ≤ length keys
+  unfolding translateVerdict
+  translated-keys =
+      let second = accepted-test 1 (wrongLength r) _ accepted .1 in
+      let third = accepted-test 2 (wrongVersion r) _ second .1 in
+      let fourth = accepted-test 3 (wrongStorage storage) _ third .1 in
+      omega (arith, keys-of-right storage keys (accepted-test 4 (wrongKeys storage keys) _ fourth .0))
+
+pub entered : (g : Guest) → entryGood g ≡ true → Entered g
+entered g good = record { space = entry-placed g good .sum; prefix = entry-placed g good .prefixed }
+
+pub answered-is : (g : Guest) (h : Host) (x : Access) → translatedTo g h x ≡ answered (touchedBy g h x)
+unfolding translatedTo touchedBy answered addressIn placed
+answered-is g h (denied f) = refl
+answered-is g h (reached l) = by-walk (backing g h (l .absolute))
+  where
+    by-walk : (w : Walk) → addressIn (l .absolute) w ≡ answered (placed (l .absolute) w)
+    by-walk (Failed f) = refl
+    by-walk (Page frame protected) = refl
+
+-- addressing looks at the PSW and the control registers alone
+pub seen-enough : (g : Guest) (h : Host) (c : Cpu) (store : Bool) (a : ℕ)
+    → touchOf g h c store (wrap c a) ≡ touchOf g h (seen (c .psw) (c .control)) store (wrap (seen (c .psw) (c .control)) a)
+unfolding wrap access realPage formatGood inPage keyProtects lowProtected
+seen-enough g h c store a =
+    ap (λ x. touchedBy g h (cond (store && lowProtected c (wrap c a)) (denied (exceptionOf protection)) x)) (in-page (realPage g (view g h) c (wrap c a)))
+  where
+    in-page : (w : Walk) → inPage g (view g h) c store (wrap c a) w ≡ inPage g (view g h) (seen (c .psw) (c .control)) store (wrap c a) w
+    in-page (Failed f) = refl
+    in-page (Page frame protected) = refl

@@ -1,0 +1,163 @@
+-- The fields that units change, kept beside the record: put into it and read back, put into it twice, and put back as they were.
+-- Assumes nothing.
+use Prim.Native.Nat.{ℕ, zero, suc, _+_, _/_, _%_, _^_, _≤_, _<_}
+use native.Mathlib.Omega.{arith}
+use native.Mathlib.Nat.{suc-inj}
+use mathlib.Core.Path.{_≡_, refl, sym, ap, _∙_}
+use mathlib.Core.Bool.{Bool, true, false}
+use mathlib.Core.List.{List, [], _∷_, _++_}
+use mathlib.Core.Logic.{inl, inr}
+use lib.Dec.{eqb}
+use lib.ListN.{length, getD, set}
+use lib.Seq.{sets, length-sets, set-comm, set-set}
+use borrow.Author.Tests.{eqb-true, eqb-false}
+use Rattle.machine.specs.declared.Cpu.{Cpu}
+use Rattle.machine.specs.Words.{byteAt, wordAt, doubleAt, wordsAt, wordBytes, doubleBytes, wordsBytes}
+use Rattle.machine.specs.Record.{pswAt, timerAt, controlAt, generalAt, pswBytes, pswOf, cpuOf, withCpu}
+use Rattle.machine.proofs.Laws.{getD-sets-beside, set-sets, sets-comm, sets-sets, timer-of-withCpu}
+use Rattle.machine.proofs.Words.{length-wordsBytes, wordBytes-mod, word-small, words-of-bytes, words-of-sets, sets-words-same}
+
+-- sixteen words of 32 bits
+pub record Sixteen (ws : List ℕ) : Type 0 where
+  pub long : length ws ≡ 16
+  pub small : (i : ℕ) → getD ws i 0 < 2 ^ 32
+
+-- each field within the width that the record has for it
+pub record Bounded (c : Cpu) : Type 0 where
+  pub left : c .psw .left < 2 ^ 32
+  pub right : c .psw .right < 2 ^ 32
+  pub timer : c .timer < 2 ^ 64
+  pub control : Sixteen (c .control .words)
+  pub general : Sixteen (c .general .words)
+
+pub cpu-of-withCpu : (c : Cpu) (r : List ℕ) → length r ≡ 200 → Bounded c → cpuOf (withCpu c r) ≡ c
+unfolding cpuOf pswOf withCpu wordsAt wordsBytes
+cpu-of-withCpu c r long bounded =
+    λ i. record {
+      psw = record { left = getD (psw i) 0 0; right = getD (psw i) 1 0 };
+      timer = timer i;
+      control = record { words = control i };
+      general = record { words = general i };
+    }
+  where
+    withPsw : List ℕ
+    withPsw = sets r pswAt (pswBytes (c .psw))
+
+    withTimer : List ℕ
+    withTimer = sets withPsw timerAt (doubleBytes (c .timer))
+
+    withControls : List ℕ
+    withControls = sets withTimer controlAt (wordsBytes (c .control .words))
+
+    length-withTimer : length withTimer ≡ 200
+    length-withTimer = length-sets withPsw timerAt (doubleBytes (c .timer)) ∙ length-sets r pswAt (pswBytes (c .psw)) ∙ long
+
+    length-withControls : length withControls ≡ 200
+    length-withControls = length-sets withTimer controlAt (wordsBytes (c .control .words)) ∙ length-withTimer
+
+    below-general : (i : ℕ) → i < generalAt → byteAt (withCpu c r) i ≡ byteAt withControls i
+    below-general i h = getD-sets-beside withControls generalAt (wordsBytes (c .general .words)) i 0 (inl h)
+
+    small : (i : ℕ) → getD (c .psw .left ∷ c .psw .right ∷ []) i 0 < 2 ^ 32
+    small zero = bounded .left
+    small (suc zero) = bounded .right
+    small (suc (suc i)) = omega arith
+
+    psw : wordsAt (withCpu c r) pswAt 2 ≡ c .psw .left ∷ c .psw .right ∷ []
+    psw =
+        words-of-bytes (withCpu c r) withPsw pswAt 2
+        (λ i l h.
+        below-general i (omega arith)
+        ∙ getD-sets-beside withTimer controlAt (wordsBytes (c .control .words)) i 0 (inl (omega arith))
+        ∙ getD-sets-beside withPsw timerAt (doubleBytes (c .timer)) i 0 (inl (omega arith)))
+        ∙ words-of-sets r pswAt (c .psw .left ∷ c .psw .right ∷ []) small (omega arith)
+
+    timer : doubleAt (withCpu c r) timerAt ≡ c .timer
+    timer =
+        let fits : c .timer % 2 ^ 64 ≡ c .timer = omega (arith, bounded .timer) in
+        timer-of-withCpu c r (omega arith) ∙ fits
+
+    registers : (l : List ℕ) (a : ℕ) (ws : List ℕ) → Sixteen ws → a + 64 ≤ length l → wordsAt (sets l a (wordsBytes ws)) a 16 ≡ ws
+    registers l a ws sixteen fits =
+        ap (λ (n : ℕ). wordsAt (sets l a (wordsBytes ws)) a n) (sym (sixteen .long)) ∙ words-of-sets l a ws (sixteen .small) (omega (arith, sixteen .long))
+
+    control : wordsAt (withCpu c r) controlAt 16 ≡ c .control .words
+    control =
+        words-of-bytes (withCpu c r) withControls controlAt 16 (λ i l h. below-general i (omega arith))
+        ∙ registers withTimer controlAt (c .control .words) (bounded .control) (omega (arith, length-withTimer))
+
+    general : wordsAt (withCpu c r) generalAt 16 ≡ c .general .words
+    general = registers withControls generalAt (c .general .words) (bounded .general) (omega (arith, length-withControls))
+
+module _ {A : Type 0} where
+  -- a store that is overwritten need not be made, whatever is stored between
+  set-between : (l : List A) (i : ℕ) (u w : A) (j : ℕ) (vs : List A) → set (sets (set l i u) j vs) i w ≡ set (sets l j vs) i w
+  set-between l i u w j [] = set-set l i u w
+  set-between l i u w j (v ∷ vs) = go (set-between (set l j v) i u w (suc j) vs) (eqb i j) refl
+    where
+      go : set (sets (set (set l j v) i u) (suc j) vs) i w ≡ set (sets (set l j v) (suc j) vs) i w → (b : Bool) → eqb i j ≡ b
+          → set (sets (set (set l i u) j v) (suc j) vs) i w ≡ set (sets (set l j v) (suc j) vs) i w
+      go later true e = rw (eqb-true i j e, set-set)
+      go later false e = rw (set-comm l i j u v (eqb-false i j e)) later
+
+  -- so for a run of stores
+  sets-between : (l : List A) (i : ℕ) (us ws : List A) (j : ℕ) (vs : List A) → length us ≡ length ws
+      → sets (sets (sets l i us) j vs) i ws ≡ sets (sets l j vs) i ws
+  sets-between l i [] [] j vs h = refl
+  sets-between l i [] (w ∷ ws) j vs h = absurd (omega arith)
+  sets-between l i (u ∷ us) [] j vs h = absurd (omega arith)
+  sets-between l i (u ∷ us) (w ∷ ws) j vs h =
+      let behind : List A = sets (sets l (suc i) us) j vs in
+      ap (λ (t : List A). sets (set (sets t j vs) i w) (suc i) ws) (sym (set-sets l i u (suc i) us (inl (omega arith))))
+      ∙ ap (λ (t : List A). sets t (suc i) ws) (set-between (sets l (suc i) us) i u w j vs)
+      ∙ sym (set-sets behind i w (suc i) ws (inl (omega arith)))
+      ∙ ap (λ (t : List A). set t i w) (sets-between l (suc i) us ws j vs (suc-inj h))
+      ∙ set-sets (sets l j vs) i w (suc i) ws (inl (omega arith))
+
+-- the four runs of stores of `withCpu`, made twice
+fields-fields : (s p t c g p′ t′ c′ g′ : List ℕ) → length p ≡ 8 → length p′ ≡ 8 → length t ≡ 8 → length t′ ≡ 8 → length c ≡ length c′ → length g ≡ length g′
+    → sets (sets (sets (sets (sets (sets (sets (sets s pswAt p) timerAt t) controlAt c) generalAt g) pswAt p′) timerAt t′) controlAt c′) generalAt g′
+    ≡ sets (sets (sets (sets s pswAt p′) timerAt t′) controlAt c′) generalAt g′
+fields-fields s p t c g p′ t′ c′ g′ hp hp′ ht ht′ hc hg =
+    let once : List ℕ = sets (sets s pswAt p) timerAt t in
+    let low : List ℕ = sets once pswAt p′ in
+    let both : List ℕ = sets low timerAt t′ in
+    rw (
+      sets-comm (sets once controlAt c) generalAt g pswAt p′ (inr (omega arith)),
+      sets-comm once controlAt c pswAt p′ (inr (omega arith)),
+      sets-comm (sets low controlAt c) generalAt g timerAt t′ (inr (omega arith)),
+      sets-comm low controlAt c timerAt t′ (inr (omega arith)),
+      sets-between both controlAt c c′ generalAt g hc,
+      sets-between both generalAt g g′ controlAt c′ hg,
+      sets-between (sets s pswAt p) timerAt t t′ pswAt p′ (omega arith),
+      sets-sets s pswAt p p′ (omega arith),
+    )
+
+pub withCpu-withCpu : (c d : Cpu) (r : List ℕ) → length (c .control .words) ≡ length (d .control .words)
+    → length (c .general .words) ≡ length (d .general .words) → withCpu d (withCpu c r) ≡ withCpu d r
+unfolding withCpu
+withCpu-withCpu c d r controls generals =
+    fields-fields r (pswBytes (c .psw)) (doubleBytes (c .timer)) (wordsBytes (c .control .words)) (wordsBytes (c .general .words)) (pswBytes (d .psw))
+    (doubleBytes (d .timer)) (wordsBytes (d .control .words)) (wordsBytes (d .general .words)) refl refl refl refl
+    (as-long (c .control .words) (d .control .words) controls) (as-long (c .general .words) (d .general .words) generals)
+  where
+    as-long : (us vs : List ℕ) → length us ≡ length vs → length (wordsBytes us) ≡ length (wordsBytes vs)
+    as-long us vs e = omega (arith, length-wordsBytes us, length-wordsBytes vs)
+
+-- a record of bytes that gets its own fields back stays as it is
+module _ (r : List ℕ) (small : (i : ℕ) → byteAt r i < 256) where
+  psw-same : sets r pswAt (pswBytes (pswOf r pswAt)) ≡ r
+  unfolding pswOf wordsAt wordsBytes
+  psw-same = sets-words-same r small pswAt 2
+
+  timer-same : sets r timerAt (doubleBytes (doubleAt r timerAt)) ≡ r
+  unfolding doubleAt wordsAt wordsBytes
+  timer-same =
+      let high : doubleAt r timerAt / 2 ^ 32 ≡ wordAt r timerAt = omega (arith, word-small r small (timerAt + 4)) in
+      let low : doubleAt r timerAt % 2 ^ 32 ≡ wordAt r (timerAt + 4) = omega arith in
+      let second : wordBytes (doubleAt r timerAt) ≡ wordBytes (wordAt r (timerAt + 4)) = sym (wordBytes-mod (doubleAt r timerAt)) ∙ ap wordBytes low in
+      (λ i. sets r timerAt (wordBytes (high i) ++ second i)) ∙ sets-words-same r small timerAt 2
+
+  pub withCpu-cpuOf : withCpu (cpuOf r) r ≡ r
+  unfolding cpuOf withCpu
+  withCpu-cpuOf = rw (psw-same, timer-same, sets-words-same r small controlAt 16, sets-words-same r small generalAt 16)

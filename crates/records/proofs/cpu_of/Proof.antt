@@ -1,0 +1,40 @@
+-- `records::cpu_of` meets its contract. Each field is what the definition reads.
+-- Assumes nothing.
+use borrow.Author.Needs.{needs}
+use Rattle.machine.specs.Record.{cpuOf, pswOf}
+use Rattle.records.proofs.cpu_of.Statement.{statement}
+use Rattle.records.proofs.cpu_of.Tie as tie
+
+word-at-requires : tie.Need-word-at-requires
+word-at-requires c κs = search needs
+
+add-word-at : tie.Need-add-word-at
+add-word-at c = search needs
+
+word-at-requires-2 : tie.Need-word-at-requires-2
+word-at-requires-2 c κs = search needs
+
+double-at-requires : tie.Need-double-at-requires
+double-at-requires c κs = search needs
+
+registers-at-requires : tie.Need-registers-at-requires
+registers-at-requires c κs = search needs
+
+registers-at-requires-2 : tie.Need-registers-at-requires-2
+registers-at-requires-2 c κs = search needs
+
+returns : tie.Need-returns
+unfolding cpuOf pswOf
+returns c = rw (c .before .registers-at .ensures, c .registers-at2 .ensures) (cc)
+
+pub cpu-of-spec : {M : Type 1} → statement M
+cpu-of-spec =
+    tie.close
+    (tie.spec
+    word-at-requires
+    add-word-at
+    word-at-requires-2
+    double-at-requires
+    registers-at-requires
+    registers-at-requires-2
+    returns)

@@ -1,0 +1,2 @@
+-- The parts of a verdict, for the functions that share them.
+pub mod Parts

@@ -1,0 +1,345 @@
+// The record: its fields read and written, the verdicts on an operation's input, and entry. Each contract equates with
+// machine's Record, Refusals, Entry and Answers.
+ghost use mathlib.Core.Path.{_≡_};
+ghost use Prim.Native.Nat.{_+_, _≤_, _<_};
+ghost use lib.ListN.{length, set};
+ghost use lib.Seq.{sets};
+ghost use Rattle.machine.specs.Words.{wordsAt, wordsBytes};
+ghost use Rattle.machine.specs.Record.{guestOf, cpuOf, withCpu, withResults};
+ghost use Rattle.machine.specs.Refusals.{checkVerdict, translateVerdict, runVerdict};
+ghost use Rattle.machine.specs.Entry.{entryGood};
+ghost use Rattle.machine.specs.Answers.{results, reasonResults, endResults};
+ghost use Rattle.records.specs.Parts.{firstRefusal, headVerdict, storageVerdict, numbersVerdict, reservedVerdict, accessVerdict};
+use machine::Cpu;
+use machine::End;
+use machine::Guest;
+use machine::Numbers;
+use machine::Psw;
+use machine::Reason;
+use machine::Registers;
+use machine::Text;
+use machine::Verdict;
+
+const RECORD: usize = 200;
+
+const VERSION: u8 = 1;
+
+const FRAME: usize = 4096;
+
+const MOST_FRAMES: usize = 4096;
+
+const MOST_UNITS: u32 = 65535;
+
+const MOST_TIME: u32 = 1048576;
+
+const INSTRUCTION_FETCH: u32 = 2;
+
+// Where the fields stand that units change.
+const PSW: usize = 16;
+
+const TIMER: usize = 24;
+
+const CONTROL: usize = 72;
+
+const GENERAL: usize = 136;
+
+// The numbers of the refusals.
+const WRONG_LENGTH: u32 = 1;
+
+const WRONG_VERSION: u32 = 2;
+
+const WRONG_STORAGE: u32 = 3;
+
+const WRONG_KEYS: u32 = 4;
+
+const WRONG_BUDGET: u32 = 5;
+
+const WRONG_TIME: u32 = 6;
+
+const RESERVED_USED: u32 = 7;
+
+const WRONG_ACCESS: u32 = 8;
+
+// What entry counts in: bytes of a page and of a block of origin and extent, and the blocks of the host's 2 GiB.
+const PAGE: u64 = 4096;
+
+const BLOCK: u64 = 65536;
+
+const BLOCKS: u32 = 32768;
+
+const LAST_BLOCK: u16 = 32767;
+
+// The fields that no unit changes.
+pub fn guest_of(r: &[u8]) -> Guest
+    requires { ⌜ length (now r) ≡ 200 ⌝ }
+    ensures { λ g. ⌜ g ≡ guestOf (now (r .entry)) ⌝ }
+{
+    Guest {
+        interventions: r[3],
+        mode: r[4],
+        interceptions: r[5],
+        lctl: words::half_at(r, 6) as u16,
+        prefix: words::word_at(r, 8) / 4096 % 524288,
+        origin: words::half_at(r, 12) as u16,
+        extent: words::half_at(r, 14) as u16,
+        comparator: words::double_at(r, 32),
+        epoch: words::double_at(r, 40),
+        svc: r[48],
+        svc1: r[49],
+        svc2: r[50],
+        svc3: r[51],
+    }
+}
+
+// The sixteen words from an address on.
+fn registers_at(r: &[u8], a: usize) -> Registers
+    requires { ⌜ a + 64 ≤ length (now r) ⌝ }
+    ensures { λ x. ⌜ x .words ≡ wordsAt (now (r .entry)) a 16 ⌝ }
+{
+    let mut words = [0; 16];
+    let mut i = 0;
+    while i < 16 {
+        words[i] = words::word_at(r, a + 4 * i);
+        i += 1;
+    }
+    Registers { words }
+}
+
+// The fields that units change.
+pub fn cpu_of(r: &[u8]) -> Cpu
+    requires { ⌜ length (now r) ≡ 200 ⌝ }
+    ensures { λ cpu. ⌜ cpu ≡ cpuOf (now (r .entry)) ⌝ }
+{
+    Cpu {
+        psw: Psw {
+            left: words::word_at(r, PSW),
+            right: words::word_at(r, PSW + 4),
+        },
+        timer: words::double_at(r, TIMER),
+        control: registers_at(r, CONTROL),
+        general: registers_at(r, GENERAL),
+    }
+}
+
+// The first of two verdicts that refuses.
+fn first_refusal(earlier: Verdict, later: Verdict) -> Verdict
+    ensures { λ v. ⌜ v ≡ firstRefusal earlier later ⌝ }
+{
+    match earlier {
+        Verdict::Accepted => later,
+        Verdict::Refused(number) => Verdict::Refused(number),
+    }
+}
+
+// The record's length and version.
+fn head_verdict(r: &[u8]) -> Verdict
+    ensures { λ v. ⌜ v ≡ headVerdict (now (r .entry)) ⌝ }
+{
+    if r.len() != RECORD {
+        return Verdict::Refused(WRONG_LENGTH);
+    }
+    if words::half_at(r, 0) as usize != RECORD {
+        return Verdict::Refused(WRONG_LENGTH);
+    }
+    if r[2] != VERSION {
+        return Verdict::Refused(WRONG_VERSION);
+    }
+    Verdict::Accepted
+}
+
+// The lengths of storage and keys.
+fn storage_verdict(storage: &[u8], keys: &[u8]) -> Verdict
+    ensures { λ v. ⌜ v ≡ storageVerdict (now (storage .entry)) (now (keys .entry)) ⌝ }
+{
+    if storage.len() == 0 {
+        return Verdict::Refused(WRONG_STORAGE);
+    }
+    if storage.len() > MOST_FRAMES * FRAME {
+        return Verdict::Refused(WRONG_STORAGE);
+    }
+    if storage.len() % FRAME != 0 {
+        return Verdict::Refused(WRONG_STORAGE);
+    }
+    if keys.len() != storage.len() / FRAME {
+        return Verdict::Refused(WRONG_KEYS);
+    }
+    Verdict::Accepted
+}
+
+// The budget and the time per unit.
+fn numbers_verdict(n: Numbers) -> Verdict
+    ensures { λ v. ⌜ v ≡ numbersVerdict n ⌝ }
+{
+    if n.budget > MOST_UNITS {
+        return Verdict::Refused(WRONG_BUDGET);
+    }
+    if n.time > MOST_TIME {
+        return Verdict::Refused(WRONG_TIME);
+    }
+    Verdict::Accepted
+}
+
+// The reserved bytes of a record of the right length; another is accepted.
+fn reserved_verdict(r: &[u8]) -> Verdict
+    ensures { λ v. ⌜ (length (now (r .entry)) ≡ 200 → v ≡ reservedVerdict (now (r .entry))) ⌝ }
+{
+    if r.len() != RECORD {
+        return Verdict::Accepted;
+    }
+    if words::word_at(r, 66) as u64 + words::half_at(r, 70) as u64 != 0 {
+        return Verdict::Refused(RESERVED_USED);
+    }
+    Verdict::Accepted
+}
+
+// The access kind.
+fn access_verdict(kind: u32) -> Verdict
+    ensures { λ v. ⌜ v ≡ accessVerdict kind ⌝ }
+{
+    if kind > INSTRUCTION_FETCH {
+        return Verdict::Refused(WRONG_ACCESS);
+    }
+    Verdict::Accepted
+}
+
+// The verdict on the input of check.
+pub fn check_verdict(r: &[u8]) -> Verdict
+    ensures { λ v. ⌜ v ≡ checkVerdict (now (r .entry)) ⌝ }
+{
+    first_refusal(head_verdict(r), reserved_verdict(r))
+}
+
+// The verdict on the input of translate.
+pub fn translate_verdict(r: &[u8], storage: &[u8], keys: &[u8], kind: u32) -> Verdict
+    ensures { λ v. ⌜ v ≡ translateVerdict (now (r .entry)) (now (storage .entry)) (now (keys .entry)) kind ⌝ }
+{
+    let later = first_refusal(reserved_verdict(r), access_verdict(kind));
+    first_refusal(
+        head_verdict(r),
+        first_refusal(storage_verdict(storage, keys), later),
+    )
+}
+
+// The verdict on the input of run.
+pub fn run_verdict(n: Numbers, r: &[u8], storage: &[u8], keys: &[u8]) -> Verdict
+    ensures { λ v. ⌜ v ≡ runVerdict n (now (r .entry)) (now (storage .entry)) (now (keys .entry)) ⌝ }
+{
+    let later = first_refusal(numbers_verdict(n), reserved_verdict(r));
+    first_refusal(
+        head_verdict(r),
+        first_refusal(storage_verdict(storage, keys), later),
+    )
+}
+
+// Whether entry lets a guest through.
+pub fn entry_good(guest: Guest) -> bool
+    ensures { λ good. ⌜ good ≡ entryGood guest ⌝ }
+{
+    if guest.mode / 4 % 4 != 2 {
+        return false;
+    }
+    if guest.mode / 2 % 2 == 1 {
+        return false;
+    }
+    if guest.origin > LAST_BLOCK {
+        return false;
+    }
+    if guest.extent == 0 {
+        return false;
+    }
+    if guest.origin as u32 + guest.extent as u32 > BLOCKS {
+        return false;
+    }
+    guest.prefix as u64 * PAGE + PAGE <= guest.extent as u64 * BLOCK
+}
+
+// Sixteen words, written from an address on.
+fn put_registers(r: &mut [u8], a: usize, x: Registers)
+    requires { ⌜ a + 64 ≤ length (now r) ⌝ }
+    ensures { λ _. ⌜ now (r .exit) ≡ sets (now (r .entry)) a (wordsBytes (x .words)) ⌝ }
+{
+    let words = x.words;
+    let mut i = 0;
+    while i < 16 {
+        words::put_word(r, a + 4 * i, words[i]);
+        i += 1;
+    }
+}
+
+// The fields that units change, put into the record.
+pub fn put_cpu(r: &mut [u8], cpu: Cpu)
+    requires { ⌜ length (now r) ≡ 200 ⌝ }
+    ensures { λ _. ⌜ now (r .exit) ≡ withCpu cpu (now (r .entry)) ⌝ }
+{
+    words::put_word(r, PSW, cpu.psw.left);
+    words::put_word(r, PSW + 4, cpu.psw.right);
+    words::put_double(r, TIMER, cpu.timer);
+    put_registers(r, CONTROL, cpu.control);
+    put_registers(r, GENERAL, cpu.general);
+}
+
+// One byte, as a call, so that its caller need not follow the slice's length.
+fn put_byte(r: &mut [u8], a: usize, x: u8)
+    requires { ⌜ a < length (now r) ⌝ }
+    ensures { λ _. ⌜ now (r .exit) ≡ set (now (r .entry)) a x ⌝ }
+{
+    r[a] = x;
+}
+
+// Bytes 52-65: interception code, ILC, interruption code, address and instruction text.
+fn put_fields(r: &mut [u8], code: u8, interruption: u16, address: u32, t: Text)
+    requires { ⌜ length (now r) ≡ 200 ⌝ }
+    ensures { λ _. ⌜ now (r .exit) ≡ withResults (results code interruption address t) (now (r .entry)) ⌝ }
+{
+    put_byte(r, 52, code);
+    put_byte(r, 53, t.ilc);
+    words::put_half(r, 54, interruption as u32);
+    words::put_word(r, 56, address);
+    words::put_half(r, 60, t.first as u32);
+    words::put_half(r, 62, t.second as u32);
+    words::put_half(r, 64, t.third as u32);
+}
+
+// The results of an interception without instruction text.
+fn put_plain(r: &mut [u8], code: u8, interruption: u16, ilc: u8, address: u32)
+    requires { ⌜ length (now r) ≡ 200 ⌝ }
+    ensures { λ _. ⌜ now (r .exit) ≡ withResults (results code interruption address (record { ilc = ilc; first = 0; second = 0; third = 0 })) (now (r .entry)) ⌝ }
+{
+    let t = Text {
+        ilc,
+        first: 0,
+        second: 0,
+        third: 0,
+    };
+    put_fields(r, code, interruption, address, t);
+}
+
+// The results of an interception.
+fn put_reason(r: &mut [u8], reason: Reason)
+    requires { ⌜ length (now r) ≡ 200 ⌝ }
+    ensures { λ _. ⌜ now (r .exit) ≡ withResults (reasonResults reason) (now (r .entry)) ⌝ }
+{
+    match reason {
+        Reason::Instruction(t) => put_fields(r, 4, 0, 0, t),
+        Reason::Program { code, ilc, address } => put_plain(r, 8, code, ilc, address),
+        Reason::ExternalRequest => put_plain(r, 16, 0, 0, 0),
+        Reason::External(code) => put_plain(r, 20, code, 0, 0),
+        Reason::IoRequest => put_plain(r, 24, 0, 0, 0),
+        Reason::Wait => put_plain(r, 28, 0, 0, 0),
+        Reason::Validity => put_plain(r, 32, 0, 0, 0),
+        Reason::Stop => put_plain(r, 40, 0, 0, 0),
+        Reason::Operation(t) => put_fields(r, 44, 0, 0, t),
+    }
+}
+
+// The results of a run's end, put into the record.
+pub fn put_results(r: &mut [u8], end: End)
+    requires { ⌜ length (now r) ≡ 200 ⌝ }
+    ensures { λ _. ⌜ now (r .exit) ≡ withResults (endResults end) (now (r .entry)) ⌝ }
+{
+    match end {
+        End::Intercepted(reason) => put_reason(r, reason),
+        End::HostFault(_) => put_plain(r, 0, 0, 0, 0),
+        End::BudgetUsed => put_plain(r, 0, 0, 0, 0),
+    }
+}

@@ -1,0 +1,32 @@
+-- The walk in steps that guest and host share: each step takes an address or an entry, or hands a failure on.
+use Prim.Native.Nat.{ℕ}
+use mathlib.Core.Bool.{Bool, true, false, cond}
+use Rattle.machine.specs.declared.Failure.{Failure}
+use Rattle.machine.specs.declared.TableEntry.{TableEntry}
+use Rattle.machine.specs.declared.TableEntry.the-variants.{Word, Unread}
+use Rattle.machine.specs.Failures.{segmentTranslation, pageTranslation, translationSpecification, hostFault, walkException}
+use Rattle.machine.specs.Walk.{segmentIndex, segmentEntryAt, pastSegmentTable, segmentInvalid, segmentMalformed, pageEntryAt, pastPageTable}
+
+-- a failure of the walk for an address, of the host's tables or of the guest's
+unfoldable pub failing : Bool → ℕ → ℕ → Failure
+failing true a code = hostFault a code
+failing false a code = walkException a code
+
+-- the entry at an address that a step led to
+unfoldable pub readThrough : (ℕ → TableEntry) → TableEntry → TableEntry
+readThrough read (Unread f) = Unread f
+readThrough read (Word at) = read at
+
+-- where the segment entry of an address stands
+unfoldable pub tableLeads : (ℕ → Failure) → ℕ → ℕ → TableEntry
+tableLeads fail designation a =
+    cond (pastSegmentTable designation (segmentIndex a)) (Unread (fail segmentTranslation))
+    (Word (segmentEntryAt designation (segmentIndex a)))
+
+-- where the page entry of a page index stands
+unfoldable pub segmentLeads : (ℕ → Failure) → ℕ → TableEntry → TableEntry
+segmentLeads fail index (Unread f) = Unread f
+segmentLeads fail index (Word e) =
+    cond (segmentInvalid e) (Unread (fail segmentTranslation))
+    (cond (segmentMalformed e) (Unread (fail translationSpecification))
+    (cond (pastPageTable e index) (Unread (fail pageTranslation)) (Word (pageEntryAt e index))))

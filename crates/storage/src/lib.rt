@@ -1,0 +1,189 @@
+// The steps of a table walk that guest and host share, and the host's side of an address: the host page of a host virtual address
+// and the host page behind a guest absolute one. Each contract equates with machine's Walk and Host; keys play no part.
+ghost use mathlib.Core.Path.{_≡_};
+ghost use mathlib.Core.List.{[]};
+ghost use Prim.Native.Nat.{_≤_};
+ghost use Rattle.machine.specs.Walk.{pageIndex, walkPage};
+ghost use Rattle.machine.specs.Host.{host, hostEntry, inStorage, hostPage, backing};
+ghost use Rattle.storage.specs.Entered.{Entered};
+ghost use Rattle.storage.specs.Steps.{failing, readThrough, tableLeads, segmentLeads};
+use machine::Failure;
+use machine::Guest;
+use machine::TableEntry;
+use machine::Walk;
+
+const SEGMENT_TRANSLATION: u32 = 0x10;
+
+const PAGE_TRANSLATION: u32 = 0x11;
+
+const TRANSLATION_SPECIFICATION: u32 = 0x12;
+
+const ADDRESSING: u32 = 5;
+
+// A failure of the walk for an address, of the host's tables or of the guest's.
+fn failure(host: bool, a: u32, code: u32) -> Failure
+    ensures { λ r. ⌜ r ≡ failing host a code ⌝ }
+{
+    if host {
+        return Failure {
+            host: true,
+            code,
+            address: a,
+        };
+    }
+    if code == SEGMENT_TRANSLATION {
+        return Failure {
+            host: false,
+            code,
+            address: a / 4096 * 4096,
+        };
+    }
+    if code == PAGE_TRANSLATION {
+        return Failure {
+            host: false,
+            code,
+            address: a / 4096 * 4096,
+        };
+    }
+    Failure {
+        host: false,
+        code,
+        address: 0,
+    }
+}
+
+// Where the segment entry of an address stands.
+pub fn table_leads(host: bool, designation: u32, a: u32) -> TableEntry
+    ensures { λ r. ⌜ r ≡ tableLeads (failing host a) designation a ⌝ }
+{
+    if designation % 128 < a / 1048576 / 16 {
+        return TableEntry::Unread(failure(host, a, SEGMENT_TRANSLATION));
+    }
+    TableEntry::Word(designation / 4096 % 524288 * 4096 + a / 1048576 * 4)
+}
+
+// Where the page entry of an address stands, by a segment entry that is read.
+fn segment_word_leads(host: bool, a: u32, e: u32) -> TableEntry
+    ensures { λ r. ⌜ r ≡ segmentLeads (failing host a) (pageIndex a) (TableEntry.Word e) ⌝ }
+{
+    if e / 32 % 2 == 1 {
+        return TableEntry::Unread(failure(host, a, SEGMENT_TRANSLATION));
+    }
+    if e / 2147483648 % 2 == 1 {
+        return TableEntry::Unread(failure(host, a, TRANSLATION_SPECIFICATION));
+    }
+    if e % 16 < a / 4096 % 256 / 16 {
+        return TableEntry::Unread(failure(host, a, PAGE_TRANSLATION));
+    }
+    TableEntry::Word(e / 64 % 33554432 * 64 + a / 4096 % 256 * 4)
+}
+
+// Where the page entry of an address stands.
+pub fn segment_leads(host: bool, a: u32, e: TableEntry) -> TableEntry
+    ensures { λ r. ⌜ r ≡ segmentLeads (failing host a) (pageIndex a) e ⌝ }
+{
+    match e {
+        TableEntry::Word(w) => segment_word_leads(host, a, w),
+        TableEntry::Unread(f) => TableEntry::Unread(f),
+    }
+}
+
+// The page of a page entry that is read.
+fn page_of_word(host: bool, a: u32, e: u32) -> Walk
+    ensures { λ r. ⌜ r ≡ walkPage (failing host a) (TableEntry.Word e) ⌝ }
+{
+    if e / 1024 % 2 == 1 {
+        return Walk::Failed(failure(host, a, PAGE_TRANSLATION));
+    }
+    if e / 2147483648 % 2 == 1 {
+        return Walk::Failed(failure(host, a, TRANSLATION_SPECIFICATION));
+    }
+    if e / 2048 % 2 == 1 {
+        return Walk::Failed(failure(host, a, TRANSLATION_SPECIFICATION));
+    }
+    if e / 256 % 2 == 1 {
+        return Walk::Failed(failure(host, a, TRANSLATION_SPECIFICATION));
+    }
+    Walk::Page {
+        frame: e / 4096 % 524288,
+        protected: e / 512 % 2 == 1,
+    }
+}
+
+// The page of a page entry.
+pub fn page_of(host: bool, a: u32, e: TableEntry) -> Walk
+    ensures { λ r. ⌜ r ≡ walkPage (failing host a) e ⌝ }
+{
+    match e {
+        TableEntry::Word(w) => page_of_word(host, a, w),
+        TableEntry::Unread(f) => Walk::Failed(f),
+    }
+}
+
+// The host table entry at a host absolute address, for a host virtual address.
+fn entry_at(storage: &[u8], a: u32, at: u32) -> TableEntry
+    ensures { λ r. ⌜ r ≡ hostEntry (now (storage .entry)) a at ⌝ }
+{
+    if at as usize + 4 <= storage.len() {
+        return TableEntry::Word(words::word_at(storage, at as usize));
+    }
+    TableEntry::Unread(Failure {
+        host: true,
+        code: ADDRESSING,
+        address: a,
+    })
+}
+
+// The host table entry at the address that a step led to.
+fn read_through(storage: &[u8], a: u32, e: TableEntry) -> TableEntry
+    ensures { λ r. ⌜ r ≡ readThrough (hostEntry (now (storage .entry)) a) e ⌝ }
+{
+    match e {
+        TableEntry::Word(at) => entry_at(storage, a, at),
+        TableEntry::Unread(f) => TableEntry::Unread(f),
+    }
+}
+
+// A frame beyond the storage is a host fault.
+fn in_storage(storage: &[u8], a: u32, w: Walk) -> Walk
+    ensures { λ r. ⌜ r ≡ inStorage (now (storage .entry)) a w ⌝ }
+{
+    match w {
+        Walk::Page { frame, protected } => {
+            if (frame as usize) < storage.len() / 4096 {
+                Walk::Page { frame, protected }
+            } else {
+                Walk::Failed(Failure {
+                    host: true,
+                    code: ADDRESSING,
+                    address: a,
+                })
+            }
+        }
+        Walk::Failed(f) => Walk::Failed(f),
+    }
+}
+
+// The host page of a host virtual address.
+pub fn host_page(storage: &[u8], designation: u32, a: u32) -> Walk
+    ensures { λ r. ⌜ r ≡ hostPage (host designation (now (storage .entry)) []) a ⌝ }
+{
+    let segment = read_through(storage, a, table_leads(true, designation, a));
+    let page = read_through(storage, a, segment_leads(true, a, segment));
+    in_storage(storage, a, page_of(true, a, page))
+}
+
+// The host page behind a guest absolute address.
+pub fn backing(storage: &[u8], designation: u32, guest: Guest, a: u32) -> Walk
+    requires { ⌜ Entered guest ⌝ }
+    ensures { λ r. ⌜ r ≡ backing guest (host designation (now (storage .entry)) []) a ⌝ }
+{
+    if a < guest.extent as u32 * 65536 {
+        return host_page(storage, designation, guest.origin as u32 * 65536 + a);
+    }
+    Walk::Failed(Failure {
+        host: false,
+        code: ADDRESSING,
+        address: 0,
+    })
+}
