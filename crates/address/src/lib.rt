@@ -85,10 +85,11 @@ fn guest_entry(storage: &[u8], designation: u32, guest: Guest, real: u32) -> Tab
     ensures { λ r. ⌜ ((k : List ℕ) → r ≡ guestEntry guest (view guest (host designation (now (storage .entry)) k)) real) ⌝ }
 {
     let absolute = prefixed(guest, real);
+    let behind = storage::behind(storage, designation, guest.origin, guest.extent, absolute);
     entry_behind(
         storage,
         absolute,
-        storage::backing(storage, designation, guest, absolute),
+        storage::unpacked(guest.origin, absolute, behind),
     )
 }
 
@@ -222,17 +223,15 @@ fn in_page(
     match w {
         Walk::Page { frame, protected } => {
             let absolute = prefixed(guest, frame * 4096 + a % 4096);
-            let behind = storage::backing(storage, designation, guest, absolute);
-            settle(
-                keys,
-                guest,
-                psw,
-                control,
-                store,
-                protected,
+            let behind = storage::behind(
+                storage,
+                designation,
+                guest.origin,
+                guest.extent,
                 absolute,
-                behind,
-            )
+            );
+            let page = storage::unpacked(guest.origin, absolute, behind);
+            settle(keys, guest, psw, control, store, protected, absolute, page)
         }
         Walk::Failed(f) => Place::Denied(f),
     }

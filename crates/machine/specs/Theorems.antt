@@ -24,8 +24,8 @@ use Rattle.machine.specs.Entry.{extentBytes, entryGood}
 use Rattle.machine.specs.Psw.{wrap}
 use Rattle.machine.specs.Time.{guestClock, comparatorDue}
 use Rattle.machine.specs.Failures.{addressing, exceptionOf}
-use Rattle.machine.specs.Host.{Host, Located, hostVirtual, hostPage, backing, view}
-use Rattle.machine.specs.Addresses.{denied, access, all}
+use Rattle.machine.specs.Host.{Host, host, Located, hostVirtual, hostPage, backing, view}
+use Rattle.machine.specs.Addresses.{guestEntry, denied, access, all}
 use Rattle.machine.specs.Opcodes.{opcodeOf}
 use Rattle.machine.specs.Outcomes.{Progress}
 use Rattle.machine.specs.Interruptions.{exception}
@@ -153,7 +153,7 @@ abbrev pub BytesKept : Type 0
 BytesKept = (n : Numbers) (r storage keys : List ℕ) (i : ℕ) → Unnamed i → byteAt ((runOf n r storage keys) .description) i ≡ byteAt r i
 
 -- Slips that the definition does not make: a store is an exception where any of its bytes is denied, on whichever page; the extent is
--- tested before the origin is added; clocks are compared unsigned.
+-- tested before the origin is added; clocks are compared unsigned; keys do not guard table reads.
 pub record SlipsRuledOut : Type 0 where
   pub everyByteIsChecked : (x : Progress) (a i : ℕ) (bytes : List ℕ) (c : Cpu) (f : Failure) → i < length bytes
       → access (x .guest) (x .view) (x .cpu) true (wrap (x .cpu) (a + i)) ≡ denied f
@@ -161,3 +161,5 @@ pub record SlipsRuledOut : Type 0 where
   pub extentBeforeOrigin : (g : Guest) (h : Host) (a : ℕ) → a < extentBytes g → backing g h a ≡ hostPage h (hostVirtual g a)
   pub pastTheExtent : (g : Guest) (h : Host) (a : ℕ) → extentBytes g ≤ a → backing g h a ≡ Failed (exceptionOf addressing)
   pub clocksAreUnsigned : (g : Guest) (clock : ℕ) → g .comparator < guestClock g clock → comparatorDue g clock ≡ true
+  pub tableReadsIgnoreKeys : (g : Guest) (d : ℕ) (storage keys₁ keys₂ : List ℕ) (real : ℕ)
+      → guestEntry g (view g (host d storage keys₁)) real ≡ guestEntry g (view g (host d storage keys₂)) real

@@ -2,13 +2,13 @@
 // and the host page behind a guest absolute one. Each contract equates with machine's Walk and Host; keys play no part.
 ghost use mathlib.Core.Path.{_≡_};
 ghost use mathlib.Core.List.{[]};
-ghost use Prim.Native.Nat.{_≤_};
+ghost use Prim.Native.Nat.{_+_, _≤_};
 ghost use Rattle.machine.specs.Walk.{pageIndex, walkPage};
 ghost use Rattle.machine.specs.Host.{host, hostEntry, inStorage, hostPage, backing};
-ghost use Rattle.storage.specs.Entered.{Entered};
+ghost use Rattle.machine.specs.declared.Guest.{Guest};
+ghost use Rattle.storage.specs.Packed.{packedWalk, unpackedWalk};
 ghost use Rattle.storage.specs.Steps.{failing, readThrough, tableLeads, segmentLeads};
 use machine::Failure;
-use machine::Guest;
 use machine::TableEntry;
 use machine::Walk;
 
@@ -173,17 +173,74 @@ pub fn host_page(storage: &[u8], designation: u32, a: u32) -> Walk
     in_storage(storage, a, page_of(true, a, page))
 }
 
-// The host page behind a guest absolute address.
-pub fn backing(storage: &[u8], designation: u32, guest: Guest, a: u32) -> Walk
-    requires { ⌜ Entered guest ⌝ }
-    ensures { λ r. ⌜ r ≡ backing guest (host designation (now (storage .entry)) []) a ⌝ }
+// The host page behind a guest absolute address, for every guest of this origin and extent.
+fn backing(storage: &[u8], designation: u32, origin: u16, extent: u16, a: u32) -> Walk
+    requires { ⌜ origin + extent ≤ 32768 ⌝ }
+    ensures { λ r. ⌜ ((g : Guest) → g .origin ≡ origin → g .extent ≡ extent → r ≡ backing g (host designation (now (storage .entry)) []) a) ⌝ }
 {
-    if a < guest.extent as u32 * 65536 {
-        return host_page(storage, designation, guest.origin as u32 * 65536 + a);
+    let absolute = a as u64;
+    let virtual_address = origin as u64 * 65536 + absolute;
+    if absolute < extent as u64 * 65536 {
+        return host_page(storage, designation, virtual_address as u32);
     }
     Walk::Failed(Failure {
         host: false,
         code: ADDRESSING,
+        address: 0,
+    })
+}
+
+fn pack_walk(w: Walk) -> u64
+    ensures { λ r. ⌜ r ≡ packedWalk w ⌝ }
+{
+    match w {
+        Walk::Page { frame, protected } => {
+            if protected {
+                frame as u64 * 2 + 1
+            } else {
+                frame as u64 * 2
+            }
+        }
+        Walk::Failed(f) => {
+            let host = f.host;
+            if host {
+                4294967296 + f.code as u64 * 2 + 1
+            } else {
+                4294967296 + f.code as u64 * 2
+            }
+        }
+    }
+}
+
+// The host page behind a guest absolute address, as one number, for every guest of this origin and extent.
+pub fn behind(storage: &[u8], designation: u32, origin: u16, extent: u16, a: u32) -> u64
+    requires { ⌜ origin + extent ≤ 32768 ⌝ }
+    ensures { λ r. ⌜ ((g : Guest) → g .origin ≡ origin → g .extent ≡ extent → r ≡ packedWalk (backing g (host designation (now (storage .entry)) []) a)) ⌝ }
+{
+    pack_walk(backing(storage, designation, origin, extent, a))
+}
+
+// What such a number says of a guest absolute address, for every guest of this origin.
+pub fn unpacked(origin: u16, a: u32, w: u64) -> Walk
+    ensures { λ r. ⌜ ((g : Guest) → g .origin ≡ origin → r ≡ unpackedWalk g a w) ⌝ }
+{
+    if w < 4294967296 {
+        return Walk::Page {
+            frame: (w / 2) as u32,
+            protected: w % 2 == 1,
+        };
+    }
+    let code = (w % 4294967296 / 2) as u32;
+    if w % 2 == 1 {
+        return Walk::Failed(Failure {
+            host: true,
+            code,
+            address: ((origin as u64 * 65536 + a as u64) % 4294967296) as u32,
+        });
+    }
+    Walk::Failed(Failure {
+        host: false,
+        code,
         address: 0,
     })
 }

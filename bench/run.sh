@@ -1,0 +1,15 @@
+#!/bin/sh
+# Builds the benchmark and runs it. LIB names another library, seen from this directory; CC another compiler.
+set -eu
+cd "$(dirname "$0")"
+CC=${CC:-gcc}
+LIB=${LIB:-../target/staticlib/libdrevokas.a}
+OUT=../target/c
+
+if [ ! -f "$LIB" ]; then
+    echo "bench/run.sh: no $LIB; build the static library first" >&2
+    exit 1
+fi
+mkdir -p "$OUT"
+"$CC" -std=c99 -Wall -Wextra -Werror -pedantic -O2 -o "$OUT/bench_translate" bench_translate.c plain.c "$LIB"
+exec "$OUT/bench_translate"

@@ -1,0 +1,109 @@
+-- A row is had back from its packing, field by field.
+-- Assumes nothing.
+use Prim.Native.Nat.{ℕ, zero, suc, _*_, _/_, _%_, _<_}
+use mathlib.Core.Path.{_≡_, refl, ap, sym, _∙_}
+use mathlib.Core.Bool.{Bool, true, false, cond}
+use mathlib.Core.List.{List, [], _∷_, map}
+use native.Mathlib.Nat.{not-suc-le-zero, le-of-suc-le-suc}
+use native.Mathlib.Omega.{arith}
+use borrow.Author.Tests.{lt-ltb, le-ltb, eqb-true}
+use lib.Dec.{eqb, ltb, lit<}
+use lib.ListN.{length, getD}
+use Rattle.machine.specs.declared.Class.{Class}
+use Rattle.machine.specs.declared.Class.the-variants.{Lr, Ar, Sr, Bcr, Svc, La, Bc, St, L, Lpsw, Stctl, Lctl, Stck, Spt, Stpt, Mandatory, Unassigned}
+use Rattle.machine.specs.Words.{bits}
+use Rattle.machine.specs.Opcodes.{Row, lengthOf, numberOf}
+use Rattle.decode.specs.Packing.{codeOf, lengthOfNumber, packed}
+
+-- a place of a packed list has the packing of the row there
+pub packed-at : (rows : List Row) (none : Row) (k : ℕ) → k < length rows → getD (map packed rows) k 0 ≡ packed (getD rows k none)
+packed-at [] none k h = absurd (not-suc-le-zero h)
+packed-at (r ∷ rows) none zero h = refl
+packed-at (r ∷ rows) none (suc k) h = packed-at rows none k (le-of-suc-le-suc h)
+
+classes : List Class
+classes = Lr ∷ Ar ∷ Sr ∷ Bcr ∷ Svc ∷ La ∷ Bc ∷ St ∷ L ∷ Lpsw ∷ Stctl ∷ Lctl ∷ Stck ∷ Spt ∷ Stpt ∷ Mandatory ∷ Unassigned ∷ []
+
+-- a class stands at its code
+placed : (k : Class) → (codeOf k < 17) × (getD classes (codeOf k) Unassigned ≡ k)
+unfolding classes
+placed Lr = (lit< tt, refl)
+placed Ar = (lit< tt, refl)
+placed Sr = (lit< tt, refl)
+placed Bcr = (lit< tt, refl)
+placed Svc = (lit< tt, refl)
+placed La = (lit< tt, refl)
+placed Bc = (lit< tt, refl)
+placed St = (lit< tt, refl)
+placed L = (lit< tt, refl)
+placed Lpsw = (lit< tt, refl)
+placed Stctl = (lit< tt, refl)
+placed Lctl = (lit< tt, refl)
+placed Stck = (lit< tt, refl)
+placed Spt = (lit< tt, refl)
+placed Stpt = (lit< tt, refl)
+placed Mandatory = (lit< tt, refl)
+placed Unassigned = (lit< tt, refl)
+
+pub same-class : (j k : Class) → codeOf j ≡ codeOf k → j ≡ k
+same-class j k e = sym (placed j .1) ∙ ap (λ n. getD classes n Unassigned) e ∙ placed k .1
+
+length-small : (first : ℕ) → lengthOf first < 4
+unfolding lengthOf
+length-small first = by-tests (eqb (bits 16 0 1 first) 0) (ltb (bits 16 0 1 first) 3)
+  where
+    by-tests : (b c : Bool) → cond b 1 (cond c 2 3) < 4
+    by-tests true c = lit< tt
+    by-tests false true = lit< tt
+    by-tests false false = lit< tt
+
+flag-small : (b : Bool) → cond b 1 0 < 2
+flag-small true = lit< tt
+flag-small false = lit< tt
+
+module _ (r : Row) where
+  -- each field of the packing is small enough for its digits
+  small : (lengthOfNumber (r .number) < 4) × (cond (r .privileged) 1 0 < 2) × (codeOf (r .class) < 17)
+  unfolding lengthOfNumber
+  small = (length-small _, flag-small (r .privileged), placed (r .class) .0)
+
+  pub packed-number : packed r / 65536 ≡ r .number
+  unfolding packed
+  packed-number = omega (arith, small)
+
+  pub packed-length : packed r / 4096 % 16 ≡ lengthOfNumber (r .number)
+  unfolding packed
+  packed-length = omega (arith, small)
+
+  packed-flag : packed r / 256 % 16 ≡ cond (r .privileged) 1 0
+  unfolding packed
+  packed-flag = omega (arith, small)
+
+  pub packed-privilege : eqb (packed r / 256 % 16) 1 ≡ r .privileged
+  packed-privilege = rw packed-flag (raised (r .privileged))
+    where
+      raised : (b : Bool) → eqb (cond b 1 0) 1 ≡ b
+      raised true = refl
+      raised false = refl
+
+  pub packed-code : packed r % 256 ≡ codeOf (r .class)
+  unfolding packed
+  packed-code = omega (arith, small)
+
+  pub packed-code-small : packed r % 256 < 17
+  unfolding packed
+  packed-code-small = omega (arith, small)
+
+-- the length lies in the first byte
+same-length : (x y : ℕ) → bits 16 0 1 x ≡ bits 16 0 1 y → lengthOf x ≡ lengthOf y
+unfolding lengthOf
+same-length x y e = rw e
+
+-- a first halfword has the length of its number
+pub length-by-number : (first : ℕ) → first < 65536 → lengthOfNumber (numberOf first) ≡ lengthOf first
+unfolding lengthOfNumber numberOf
+length-by-number first short = by-test (eqb (first / 256) 0xb2) refl
+  where
+    by-test : (b : Bool) → eqb (first / 256) 0xb2 ≡ b → lengthOfNumber (cond b first (first / 256)) ≡ lengthOf first
+    by-test true e = rw (le-ltb first 256 (omega (arith, eqb-true (first / 256) 0xb2 e)))
+    by-test false e = rw (lt-ltb (first / 256) 256 (omega arith)) (same-length (first / 256 * 256) first (omega arith))

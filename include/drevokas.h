@@ -1,0 +1,130 @@
+/*
+ * Drevokas: interpretive execution of one 370-XA guest CPU with pageable storage.
+ *
+ * Numbers and byte positions are those of document 01, "Definition of the build and its rules". Bit 0 is the
+ * leftmost bit, and what stands in bytes is big-endian.
+ *
+ * The record, 200 bytes:
+ *   0-1 length (200); 2 version (1); 3 intervention requests; 4 mode; 5 interception controls;
+ *   6-7 LCTL controls; 8-11 prefix; 12-13 origin; 14-15 extent (both in 64 KiB blocks); 16-23 PSW;
+ *   24-31 CPU timer; 32-39 clock comparator; 40-47 epoch difference; 48 SVC flags; 49-51 SVC numbers;
+ *   52-65 results; 66-71 zero; 72-135 control registers 0-15; 136-199 general registers 0-15.
+ *
+ * Handed in beside it: host storage, 1 to 4,096 frames of 4,096 bytes; one key byte for each frame; the host
+ * segment-table designation.
+ *
+ * Who owns what: every byte belongs to the caller. The library uses the bytes during the call only and keeps no
+ * pointer to them. A pointer must not be null and must be valid for the length given with it; with a length of 0
+ * any non-null pointer will do. No alignment of bytes is needed. Any length and any number may be handed in: what
+ * the rules do not allow is refused.
+ */
+#ifndef DREVOKAS_H
+#define DREVOKAS_H
+
+#include <stddef.h>
+#include <stdint.h>
+
+#ifdef __cplusplus
+extern "C" {
+#endif
+
+/* Limits. */
+#define DREVOKAS_RECORD_LENGTH 200u
+#define DREVOKAS_RECORD_VERSION 1u
+#define DREVOKAS_FRAME_BYTES 4096u
+#define DREVOKAS_MOST_FRAMES 4096u
+#define DREVOKAS_MOST_UNITS 65535u
+#define DREVOKAS_MOST_TIME 1048576u
+
+/* The kind of an answer: bits 0-7. */
+#define DREVOKAS_REFUSED 0u           /* number: the refusal, 1 to 8 */
+#define DREVOKAS_INTERCEPTED 1u       /* number: the interception code; 32 for an entry that fails */
+#define DREVOKAS_HOST_FAULT 2u        /* number: the program code of the host fault */
+#define DREVOKAS_BUDGET_USED 3u       /* number: 0; not an answer of check or translate */
+#define DREVOKAS_PROGRAM_EXCEPTION 4u /* number: the guest's program code */
+#define DREVOKAS_GOOD 5u              /* number: 0; check: good; translate: translated */
+
+/* Refusals, tested in this order, each where the operation has that input. */
+#define DREVOKAS_REFUSAL_LENGTH 1u   /* record or its length field is not 200 */
+#define DREVOKAS_REFUSAL_VERSION 2u  /* version is not 1 */
+#define DREVOKAS_REFUSAL_STORAGE 3u  /* storage is empty, over 4,096 frames or not whole frames */
+#define DREVOKAS_REFUSAL_KEYS 4u     /* number of keys differs from number of frames */
+#define DREVOKAS_REFUSAL_BUDGET 5u   /* budget too large; not an answer of check or translate */
+#define DREVOKAS_REFUSAL_TIME 6u     /* time per unit too large; not an answer of check or translate */
+#define DREVOKAS_REFUSAL_RESERVED 7u /* one of bytes 66-71 is not zero */
+#define DREVOKAS_REFUSAL_ACCESS 8u   /* access kind is not 0, 1 or 2 */
+
+/* The interception code of an entry that fails: mode, origin and extent, or prefix. */
+#define DREVOKAS_CODE_VALIDITY 32u
+
+/* Program codes, of the guest's exceptions and of host faults. */
+#define DREVOKAS_PROTECTION 0x04u
+#define DREVOKAS_ADDRESSING 0x05u
+#define DREVOKAS_SEGMENT_TRANSLATION 0x10u
+#define DREVOKAS_PAGE_TRANSLATION 0x11u
+#define DREVOKAS_TRANSLATION_SPECIFICATION 0x12u
+
+/* Access kinds. The two kinds of fetch are tested alike. */
+#define DREVOKAS_OPERAND_FETCH 0u
+#define DREVOKAS_STORE 1u
+#define DREVOKAS_INSTRUCTION_FETCH 2u
+
+/* An answer holds, from the left: kind in bits 0-7, number in bits 8-15, zeros, units completed in bits 32-63. */
+
+static inline uint32_t drevokas_kind(uint64_t answer)
+{
+    return (uint32_t)(answer >> 56);
+}
+
+static inline uint32_t drevokas_number(uint64_t answer)
+{
+    return (uint32_t)(answer >> 48 & 0xffu);
+}
+
+/* Zero in the answers of check and translate. */
+static inline uint32_t drevokas_units(uint64_t answer)
+{
+    return (uint32_t)(answer & 0xffffffffu);
+}
+
+/*
+ * Checks a record. Answers:
+ *
+ *   kind                   number
+ *   DREVOKAS_REFUSED       1, 2 or 7
+ *   DREVOKAS_INTERCEPTED   32: entry would fail
+ *   DREVOKAS_GOOD          0
+ *
+ * Writes nothing.
+ */
+uint64_t drevokas_check(const uint8_t *record, size_t record_len);
+
+/*
+ * Translates one guest logical address, for one byte and one access kind. Takes any 32-bit address, which wraps at
+ * 2^24 or 2^31 by PSW bit 32. Of the PSW only bits 5, 8-11 and 32 are used. Answers:
+ *
+ *   kind                         number                      *where
+ *   DREVOKAS_REFUSED             1, 2, 3, 4, 7 or 8          not touched
+ *   DREVOKAS_INTERCEPTED         32: entry would fail        0
+ *   DREVOKAS_HOST_FAULT          4, 5, 10, 11 or 12 hex      host virtual address of the byte or of the first byte of
+ *                                                            the guest table entry reached for
+ *   DREVOKAS_PROGRAM_EXCEPTION   4, 5, 10, 11 or 12 hex      0
+ *   DREVOKAS_GOOD                0                           host absolute address of the byte
+ *
+ * Guest exceptions: 4 low-address, page or key protection; 5 at or above the extent, a table entry too; 10 hex segment
+ * translation; 11 hex page translation; 12 hex translation specification. Host faults: 4 store to a host page that is
+ * protected; 5 table entry or frame beyond the storage; 10, 11 and 12 hex from the host's tables. The first test of
+ * document 01 that fails gives the answer.
+ *
+ * Writes nothing but *where, which must be an aligned uint64_t apart from the record, the storage and the keys. An
+ * address stands in its low 32 bits, the high 32 bits being zero.
+ */
+uint64_t drevokas_translate(const uint8_t *record, size_t record_len, const uint8_t *storage, size_t storage_len,
+                            const uint8_t *keys, size_t keys_len, uint32_t designation, uint32_t address,
+                            uint32_t access, uint64_t *where);
+
+#ifdef __cplusplus
+}
+#endif
+
+#endif

@@ -1,0 +1,66 @@
+/* Compares check and translate with the plain C versions on pseudo-random cases, and sees that every answer that
+   translate can give is among them.
+   Usage: compare_translate [cases [seed]] */
+#include "compare.h"
+
+#define CASES 500000
+#define SEED 370
+
+/* The answers of translate, by kind and number. */
+static const struct {
+    uint32_t kind, number;
+    const char *name;
+} answers[] = {
+    {DREVOKAS_REFUSED, 1, "refused"},
+    {DREVOKAS_REFUSED, 2, "refused"},
+    {DREVOKAS_REFUSED, 3, "refused"},
+    {DREVOKAS_REFUSED, 4, "refused"},
+    {DREVOKAS_REFUSED, 7, "refused"},
+    {DREVOKAS_REFUSED, 8, "refused"},
+    {DREVOKAS_INTERCEPTED, 32, "intercepted"},
+    {DREVOKAS_HOST_FAULT, 0x04, "host fault"},
+    {DREVOKAS_HOST_FAULT, 0x05, "host fault"},
+    {DREVOKAS_HOST_FAULT, 0x10, "host fault"},
+    {DREVOKAS_HOST_FAULT, 0x11, "host fault"},
+    {DREVOKAS_HOST_FAULT, 0x12, "host fault"},
+    {DREVOKAS_PROGRAM_EXCEPTION, 0x04, "program exception"},
+    {DREVOKAS_PROGRAM_EXCEPTION, 0x05, "program exception"},
+    {DREVOKAS_PROGRAM_EXCEPTION, 0x10, "program exception"},
+    {DREVOKAS_PROGRAM_EXCEPTION, 0x11, "program exception"},
+    {DREVOKAS_PROGRAM_EXCEPTION, 0x12, "program exception"},
+    {DREVOKAS_GOOD, 0, "translated"},
+};
+
+/* Prints how often each answer was given; whether all were given and no others. */
+static int all_given(const struct tally *t, unsigned long cases)
+{
+    unsigned long total = 0;
+    int all = 1;
+    size_t i;
+
+    for (i = 0; i < sizeof answers / sizeof *answers; i++) {
+        unsigned long count = t->count[answers[i].kind][answers[i].number];
+
+        printf("%-17s %2lu: %lu\n", answers[i].name, (unsigned long)answers[i].number, count);
+        total += count;
+        all &= count != 0;
+    }
+    return all && total == cases;
+}
+
+int main(int argc, char **argv)
+{
+    unsigned long cases = argc > 1 ? strtoul(argv[1], NULL, 10) : CASES;
+    uint64_t seed = argc > 2 ? strtoull(argv[2], NULL, 10) : SEED;
+    struct tally t;
+
+    printf("seed %llu\n", (unsigned long long)seed);
+    if (!compare_cases(seed, cases, &t))
+        return 1;
+    if (!all_given(&t, cases)) {
+        printf("an answer is missing, or one that translate cannot give was given\n");
+        return 1;
+    }
+    printf("%lu cases the same\n", cases);
+    return 0;
+}

@@ -1,0 +1,59 @@
+/* Where the fields of a record stand, and big-endian numbers in bytes. */
+#ifndef FIELDS_H
+#define FIELDS_H
+
+#include <stdint.h>
+
+#define AT_LENGTH 0
+#define AT_VERSION 2
+#define AT_MODE 4
+#define AT_PREFIX 8
+#define AT_ORIGIN 12
+#define AT_EXTENT 14
+#define AT_PSW 16
+#define AT_ADDRESSING_MODE 20
+#define AT_RESERVED 66
+#define RESERVED_BYTES 6
+#define AT_CR0 72
+#define AT_CR1 76
+
+/* bit i of a word */
+#define BIT(i) (0x80000000u >> (i))
+
+/* PSW bits, of its left and of its right word */
+#define PSW_DAT BIT(5)
+#define PSW_KEY(key) ((uint32_t)(key) << 20)
+#define PSW_31 BIT(0)
+
+/* CR0: bits 8-12 as they must be; low-address protection; fetch-protection override */
+#define CR0_FORMAT 0x00b00000u
+#define CR0_FORMAT_BITS 0x00f80000u
+#define CR0_LOW_PROTECTION BIT(3)
+#define CR0_FETCH_OVERRIDE BIT(6)
+
+/* table entries */
+#define SEGMENT_INVALID BIT(26)
+#define PAGE_INVALID BIT(21)
+#define PAGE_PROTECTED BIT(22)
+
+/* a mode that entry accepts */
+#define MODE_XA 0x08
+
+static inline void put16(uint8_t *at, uint32_t value)
+{
+    at[0] = (uint8_t)(value >> 8);
+    at[1] = (uint8_t)value;
+}
+
+static inline void put32(uint8_t *at, uint32_t value)
+{
+    put16(at, value >> 16);
+    put16(at + 2, value);
+}
+
+static inline uint32_t get32(const uint8_t *at)
+{
+    return (uint32_t)at[0] << 24 | (uint32_t)at[1] << 16 | (uint32_t)at[2] << 8 | at[3];
+}
+
+#endif

@@ -1,0 +1,33 @@
+#!/bin/sh
+# Builds the C tests against the static library and runs them, test_translate under valgrind too if it is there.
+# Fails if anything fails. LIB names another library, seen from the root of the repository; CC another compiler.
+set -eu
+cd "$(dirname "$0")/../.."
+CC=${CC:-gcc}
+LIB=${LIB:-target/staticlib/libdrevokas.a}
+OUT=target/c
+FLAGS="-std=c99 -Wall -Wextra -Werror -pedantic"
+
+if [ ! -f "$LIB" ]; then
+    echo "tests/c/run.sh: no $LIB; build the static library first" >&2
+    exit 1
+fi
+mkdir -p "$OUT"
+
+# the header by itself, as C99 and as C++
+echo '#include "include/drevokas.h"' | "$CC" $FLAGS -I. -fsyntax-only -x c -
+if command -v g++ > /dev/null; then
+    echo '#include "include/drevokas.h"' | g++ -Wall -Wextra -Werror -pedantic -I. -fsyntax-only -x c++ -
+fi
+
+"$CC" $FLAGS -O1 -g -o "$OUT/test_translate" tests/c/test_translate.c "$LIB"
+"$CC" $FLAGS -O2 -o "$OUT/compare_translate" tests/c/compare_translate.c bench/plain.c "$LIB"
+
+echo "test_translate"
+"$OUT/test_translate"
+echo "compare_translate"
+"$OUT/compare_translate"
+if command -v valgrind > /dev/null; then
+    echo "test_translate under valgrind"
+    valgrind --error-exitcode=9 -q "$OUT/test_translate"
+fi
