@@ -3,7 +3,7 @@
 use Prim.Native.Nat.{ℕ, _≤_}
 use native.Mathlib.Omega.{arith}
 use mathlib.Core.Path.{_≡_, refl, ap}
-use mathlib.Core.Bool.{Bool, true, cond, _&&_}
+use mathlib.Core.Bool.{Bool, true}
 use mathlib.Core.List.{List}
 use lib.ListN.{length}
 use Rattle.machine.specs.declared.Cpu.{Cpu}
@@ -14,14 +14,14 @@ use Rattle.machine.specs.declared.Walk.the-variants.{Page, Failed}
 use Rattle.machine.specs.Refusals.{framesOf, wrongLength, wrongVersion, wrongStorage, wrongKeys, checkVerdict, translateVerdict}
 use Rattle.machine.specs.Entry.{entryGood}
 use Rattle.machine.specs.Psw.{wrap}
-use Rattle.machine.specs.Failures.{protection, exceptionOf}
 use Rattle.machine.specs.Host.{Host, backing, view}
-use Rattle.machine.specs.Addresses.{Access, reached, denied, formatGood, realPage, keyProtects, inPage, lowProtected, access}
+use Rattle.machine.specs.Addresses.{Access, reached, denied}
 use Rattle.machine.specs.Operations.{addressIn, translatedTo}
 use Rattle.machine.proofs.Verdicts.{accepted-test, length-of-right, keys-of-right}
 use Rattle.storage.specs.Entered.{Entered}
 use Rattle.records.proofs.Entry.{entry-placed}
 use Rattle.address.specs.Touching.{seen, placed, touchedBy, touchOf}
+use Rattle.address.proofs.Seen.{access-seen}
 use Rattle.drevokas.specs.Packing.{answered}
 
 pub checked-length : (r : List ℕ) → checkVerdict r ≡ Accepted → length r ≡ 200
@@ -56,10 +56,5 @@ answered-is g h (reached l) = by-walk (backing g h (l .absolute))
 -- addressing looks at the PSW and the control registers alone
 pub seen-enough : (g : Guest) (h : Host) (c : Cpu) (store : Bool) (a : ℕ)
     → touchOf g h c store (wrap c a) ≡ touchOf g h (seen (c .psw) (c .control)) store (wrap (seen (c .psw) (c .control)) a)
-unfolding wrap access realPage formatGood inPage keyProtects lowProtected
-seen-enough g h c store a =
-    ap (λ x. touchedBy g h (cond (store && lowProtected c (wrap c a)) (denied (exceptionOf protection)) x)) (in-page (realPage g (view g h) c (wrap c a)))
-  where
-    in-page : (w : Walk) → inPage g (view g h) c store (wrap c a) w ≡ inPage g (view g h) (seen (c .psw) (c .control)) store (wrap c a) w
-    in-page (Failed f) = refl
-    in-page (Page frame protected) = refl
+unfolding wrap
+seen-enough g h c store a = ap (touchedBy g h) (access-seen g (view g h) c store (wrap c a))

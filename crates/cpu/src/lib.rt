@@ -1,0 +1,422 @@
+// Questions about the CPU and its next values, as the units ask them. Each contract equates with machine's Psw, Time, Execute and
+// Units, for every CPU, guest or unit in progress that has the parts handed in.
+ghost use mathlib.Core.Path.{_≡_};
+ghost use mathlib.Core.Bool.{_&&_, _||_};
+ghost use Prim.Native.Nat.{ℕ, _≤_, _<_};
+ghost use lib.Dec.{eqb};
+ghost use Rattle.machine.specs.declared.Cpu.{Cpu};
+ghost use Rattle.machine.specs.Words.{bit};
+ghost use Rattle.machine.specs.Psw.{ioEnabled, externalEnabled, waiting, problemState, conditionCode, overflowEnabled, instructionAddress, notInstalled, malformed, wrap, withAddress, advanced, withConditionCode};
+ghost use Rattle.machine.specs.Time.{guestClock, comparatorDue, timerDue, clockAfter, timerAfter};
+ghost use Rattle.machine.specs.Host.{Cell};
+ghost use Rattle.machine.specs.Outcomes.{Progress};
+ghost use Rattle.machine.specs.Execute.{addressPart, operandAddress, indexedAddress, selected, rangeCount};
+ghost use Rattle.machine.specs.Units.{interceptsSvc, interceptsLctl, misaligned, unit};
+ghost use Rattle.cpu.specs.Before.{comparatorInterrupts, timerInterrupts, externalRequest, ioRequest, unitAfter};
+use machine::Class;
+use machine::Guest;
+use machine::Psw;
+use machine::Reason;
+use machine::Registers;
+use machine::Text;
+
+// What the list before a unit comes to: an end, a specification exception, or the instruction.
+pub enum Before {
+    Ends(Reason),
+    Malformed,
+    Instruction,
+}
+
+// The interruption codes of the external interruptions.
+const COMPARATOR: u16 = 0x1004;
+
+const TIMER: u16 = 0x1005;
+
+// Both hold.
+fn both(x: bool, y: bool) -> bool
+    ensures { λ r. ⌜ r ≡ (x && y) ⌝ }
+{
+    if x {
+        return y;
+    }
+    false
+}
+
+// One of two holds.
+fn either(x: bool, y: bool) -> bool
+    ensures { λ r. ⌜ r ≡ (x || y) ⌝ }
+{
+    if x {
+        return true;
+    }
+    y
+}
+
+// The PSW asks for a facility that is not installed.
+pub fn not_installed(psw: Psw) -> bool
+    ensures { λ r. ⌜ ((c : Cpu) → c .psw ≡ psw → r ≡ notInstalled c) ⌝ }
+{
+    if psw.left / 1073741824 % 2 == 1 {
+        return true;
+    }
+    psw.left / 32768 % 2 == 1
+}
+
+// The PSW is one to which a specification exception belongs.
+pub fn malformed(psw: Psw) -> bool
+    ensures { λ r. ⌜ ((c : Cpu) → c .psw ≡ psw → r ≡ malformed c) ⌝ }
+{
+    if psw.left / 2147483648 % 2 == 1 {
+        return true;
+    }
+    if psw.left / 134217728 % 8 != 0 {
+        return true;
+    }
+    if psw.left / 16384 % 2 == 1 {
+        return true;
+    }
+    if psw.left % 256 != 0 {
+        return true;
+    }
+    if psw.left / 524288 % 2 != 1 {
+        return true;
+    }
+    if psw.right / 2147483648 % 2 == 1 {
+        return false;
+    }
+    if psw.right / 16777216 % 128 != 0 {
+        return true;
+    }
+    false
+}
+
+// Problem state.
+pub fn problem_state(psw: Psw) -> bool
+    ensures { λ r. ⌜ ((c : Cpu) → c .psw ≡ psw → r ≡ problemState c) ⌝ }
+{
+    psw.left / 65536 % 2 == 1
+}
+
+// The wait state.
+pub fn waiting(psw: Psw) -> bool
+    ensures { λ r. ⌜ ((c : Cpu) → c .psw ≡ psw → r ≡ waiting c) ⌝ }
+{
+    psw.left / 131072 % 2 == 1
+}
+
+// I/O interruptions are enabled.
+pub fn io_enabled(psw: Psw) -> bool
+    ensures { λ r. ⌜ ((c : Cpu) → c .psw ≡ psw → r ≡ ioEnabled c) ⌝ }
+{
+    psw.left / 33554432 % 2 == 1
+}
+
+// External interruptions are enabled.
+pub fn external_enabled(psw: Psw) -> bool
+    ensures { λ r. ⌜ ((c : Cpu) → c .psw ≡ psw → r ≡ externalEnabled c) ⌝ }
+{
+    psw.left / 16777216 % 2 == 1
+}
+
+// Fixed-point overflow is a program exception.
+pub fn overflow_enabled(psw: Psw) -> bool
+    ensures { λ r. ⌜ ((c : Cpu) → c .psw ≡ psw → r ≡ overflowEnabled c) ⌝ }
+{
+    psw.left / 2048 % 2 == 1
+}
+
+// The condition code.
+pub fn condition_code(psw: Psw) -> u32
+    ensures { λ r. ⌜ ((c : Cpu) → c .psw ≡ psw → r ≡ conditionCode c) ⌝ }
+{
+    psw.left / 4096 % 4
+}
+
+// The instruction address.
+pub fn instruction_address(psw: Psw) -> u32
+    ensures { λ r. ⌜ ((c : Cpu) → c .psw ≡ psw → r ≡ instructionAddress c) ⌝ }
+{
+    psw.right % 2147483648
+}
+
+// A logical address, cut to the addressing mode.
+fn wrapped(psw: Psw, a: u64) -> u32
+    ensures { λ r. ⌜ (r < 2147483648) × ((c : Cpu) → c .psw ≡ psw → r ≡ wrap c a) ⌝ }
+{
+    if psw.right / 2147483648 % 2 == 1 {
+        return (a % 2147483648) as u32;
+    }
+    (a % 16777216) as u32
+}
+
+// The PSW at another instruction address, cut to the addressing mode.
+pub fn with_address(psw: Psw, a: u32) -> Psw
+    ensures { λ r. ⌜ ((c : Cpu) → c .psw ≡ psw → r ≡ (withAddress c a) .psw) ⌝ }
+{
+    Psw {
+        left: psw.left,
+        right: psw.right / 2147483648 % 2 * 2147483648 + wrapped(psw, a as u64),
+    }
+}
+
+// The PSW past an instruction of so many halfwords.
+pub fn advanced(psw: Psw, halfwords: u32) -> Psw
+    requires { ⌜ halfwords ≤ 3 ⌝ }
+    ensures { λ r. ⌜ ((c : Cpu) → c .psw ≡ psw → r ≡ (advanced c halfwords) .psw) ⌝ }
+{
+    with_address(psw, psw.right % 2147483648 + 2 * halfwords)
+}
+
+// The PSW with another condition code.
+pub fn with_condition_code(psw: Psw, code: u32) -> Psw
+    requires { ⌜ code < 4 ⌝ }
+    ensures { λ r. ⌜ ((c : Cpu) → c .psw ≡ psw → r ≡ (withConditionCode c code) .psw) ⌝ }
+{
+    Psw {
+        left: psw.left / 16384 % 262144 * 16384 + code * 4096 + psw.left % 4096,
+        right: psw.right,
+    }
+}
+
+// The clock that the guest sees.
+pub fn guest_clock(epoch: u64, clock: u64) -> u64
+    ensures { λ r. ⌜ ((g : Guest) → g .epoch ≡ epoch → r ≡ guestClock g clock) ⌝ }
+{
+    std::num::wrapping_add_u64(clock, epoch)
+}
+
+// The guest clock is past the comparator.
+pub fn comparator_due(guest: Guest, clock: u64) -> bool
+    ensures { λ r. ⌜ r ≡ comparatorDue guest clock ⌝ }
+{
+    guest.comparator < guest_clock(guest.epoch, clock)
+}
+
+// The CPU timer is negative.
+pub fn timer_due(timer: u64) -> bool
+    ensures { λ r. ⌜ ((c : Cpu) → c .timer ≡ timer → r ≡ timerDue c) ⌝ }
+{
+    timer / 9223372036854775808 % 2 == 1
+}
+
+// The CPU timer after a unit.
+pub fn timer_after(timer: u64, time: u32) -> u64
+    ensures { λ r. ⌜ r ≡ timerAfter timer time ⌝ }
+{
+    std::num::wrapping_sub_u64(timer, time as u64)
+}
+
+// The host clock after a unit.
+pub fn clock_after(clock: u64, time: u32) -> u64
+    ensures { λ r. ⌜ r ≡ clockAfter clock time ⌝ }
+{
+    std::num::wrapping_add_u64(clock, time as u64)
+}
+
+// The content of a base or index register: register 0 stands for zero.
+pub fn address_part(general: Registers, i: u32) -> u32
+    requires { ⌜ i < 16 ⌝ }
+    ensures { λ r. ⌜ ((x : Progress) → x .cpu .general ≡ general → r ≡ addressPart x i) ⌝ }
+{
+    if i == 0 {
+        return 0;
+    }
+    general.words[i as usize]
+}
+
+// The operand's address D2(B2), cut once at the end.
+pub fn operand_address(psw: Psw, general: Registers, text: Text) -> u32
+    ensures { λ r. ⌜ ((x : Progress) → x .cpu .psw ≡ psw → x .cpu .general ≡ general → x .text ≡ text → r ≡ operandAddress x) ⌝ }
+{
+    let second = text.second as u32;
+    let base = address_part(general, second / 4096 % 16);
+    wrapped(psw, base as u64 + (second % 4096) as u64)
+}
+
+// The operand's address D2(X2,B2), cut once at the end.
+pub fn indexed_address(psw: Psw, general: Registers, text: Text) -> u32
+    ensures { λ r. ⌜ ((x : Progress) → x .cpu .psw ≡ psw → x .cpu .general ≡ general → x .text ≡ text → r ≡ indexedAddress x) ⌝ }
+{
+    let first = text.first as u32;
+    let second = text.second as u32;
+    let index = address_part(general, first % 16);
+    let base = address_part(general, second / 4096 % 16);
+    wrapped(psw, index as u64 + base as u64 + (second % 4096) as u64)
+}
+
+// The mask's bit for the condition code is one.
+pub fn selected(mask: u32, code: u32) -> bool
+    requires { ⌜ (mask < 16) × (code < 4) ⌝ }
+    ensures { λ r. ⌜ r ≡ selected mask code ⌝ }
+{
+    if code == 0 {
+        return mask / 8 % 2 == 1;
+    }
+    if code == 1 {
+        return mask / 4 % 2 == 1;
+    }
+    if code == 2 {
+        return mask / 2 % 2 == 1;
+    }
+    mask % 2 == 1
+}
+
+// How many control registers R1 to R3 are, going up and through 15 to 0.
+pub fn range_count(text: Text) -> u32
+    ensures { λ r. ⌜ (1 ≤ r) × (r ≤ 16) × ((x : Progress) → x .text ≡ text → r ≡ rangeCount x) ⌝ }
+{
+    let first = text.first as u32;
+    (first % 16 + (16 - first / 16 % 16)) % 16 + 1
+}
+
+// A flag and its number ask for this number.
+fn asked(flag: bool, wanted: u8, number: u32) -> bool
+    ensures { λ r. ⌜ r ≡ (flag && eqb wanted number) ⌝ }
+{
+    both(flag, wanted as u32 == number)
+}
+
+// The guest's flags and numbers ask for an interception of this SUPERVISOR CALL.
+pub fn intercepts_svc(guest: Guest, number: u32) -> bool
+    ensures { λ r. ⌜ r ≡ interceptsSvc guest number ⌝ }
+{
+    let all = guest.svc / 128 % 2 == 1;
+    let first = asked(guest.svc / 64 % 2 == 1, guest.svc1, number);
+    let second = asked(guest.svc / 32 % 2 == 1, guest.svc2, number);
+    let third = asked(guest.svc / 16 % 2 == 1, guest.svc3, number);
+    either(either(either(all, first), second), third)
+}
+
+// The interception control of control register i is one.
+fn lctl_bit(lctl: u16, i: u32) -> bool
+    requires { ⌜ i < 16 ⌝ }
+    ensures { λ r. ⌜ r ≡ bit 16 i lctl ⌝ }
+{
+    match i {
+        0 => lctl / 32768 % 2 == 1,
+        1 => lctl / 16384 % 2 == 1,
+        2 => lctl / 8192 % 2 == 1,
+        3 => lctl / 4096 % 2 == 1,
+        4 => lctl / 2048 % 2 == 1,
+        5 => lctl / 1024 % 2 == 1,
+        6 => lctl / 512 % 2 == 1,
+        7 => lctl / 256 % 2 == 1,
+        8 => lctl / 128 % 2 == 1,
+        9 => lctl / 64 % 2 == 1,
+        10 => lctl / 32 % 2 == 1,
+        11 => lctl / 16 % 2 == 1,
+        12 => lctl / 8 % 2 == 1,
+        13 => lctl / 4 % 2 == 1,
+        14 => lctl / 2 % 2 == 1,
+        _ => lctl % 2 == 1,
+    }
+}
+
+// The interception control of one of n control registers from i on is one.
+pub fn intercepts_lctl(guest: Guest, i: u32, n: u32) -> bool
+    requires { ⌜ (i < 16) × (n ≤ 16) ⌝ }
+    ensures { λ r. ⌜ r ≡ interceptsLctl guest i n ⌝ }
+{
+    let mut at = i;
+    let mut left = n;
+    while left > 0 {
+        if lctl_bit(guest.lctl, at) {
+            return true;
+        }
+        at = (at + 1) % 16;
+        left -= 1;
+    }
+    false
+}
+
+// The operand's address is not aligned as its class asks.
+pub fn misaligned(class: Class, a: u32) -> bool
+    ensures { λ r. ⌜ r ≡ misaligned class a ⌝ }
+{
+    match class {
+        Class::Lr => false,
+        Class::Ar => false,
+        Class::Sr => false,
+        Class::Bcr => false,
+        Class::Svc => false,
+        Class::La => false,
+        Class::Bc => false,
+        Class::St => false,
+        Class::L => false,
+        Class::Lpsw => a % 8 != 0,
+        Class::Stctl => a % 4 != 0,
+        Class::Lctl => a % 4 != 0,
+        Class::Stck => false,
+        Class::Spt => a % 8 != 0,
+        Class::Stpt => a % 8 != 0,
+        Class::Mandatory => false,
+        Class::Unassigned => false,
+    }
+}
+
+// Step 4: the clock comparator interrupts.
+fn comparator_interrupts(guest: Guest, clock: u64, psw: Psw, control: Registers) -> bool
+    ensures { λ r. ⌜ ((c : Cpu) → c .psw ≡ psw → c .control ≡ control → r ≡ comparatorInterrupts guest clock c) ⌝ }
+{
+    let cr0 = control.words[0];
+    both(
+        both(external_enabled(psw), cr0 / 2048 % 2 == 1),
+        comparator_due(guest, clock),
+    )
+}
+
+// Step 5: the CPU timer interrupts.
+fn timer_interrupts(psw: Psw, timer: u64, control: Registers) -> bool
+    ensures { λ r. ⌜ ((c : Cpu) → c .psw ≡ psw → c .timer ≡ timer → c .control ≡ control → r ≡ timerInterrupts c) ⌝ }
+{
+    let cr0 = control.words[0];
+    both(
+        both(external_enabled(psw), cr0 / 1024 % 2 == 1),
+        timer_due(timer),
+    )
+}
+
+// Step 6: an external interruption is requested and enabled.
+fn external_request(guest: Guest, psw: Psw) -> bool
+    ensures { λ r. ⌜ ((c : Cpu) → c .psw ≡ psw → r ≡ externalRequest guest c) ⌝ }
+{
+    both(guest.interventions % 2 == 1, external_enabled(psw))
+}
+
+// Step 7: an I/O interruption is requested and enabled.
+fn io_request(guest: Guest, psw: Psw) -> bool
+    ensures { λ r. ⌜ ((c : Cpu) → c .psw ≡ psw → r ≡ ioRequest guest c) ⌝ }
+{
+    both(guest.interventions / 2 % 2 == 1, io_enabled(psw))
+}
+
+// The list before each unit, first that applies.
+pub fn before_unit(guest: Guest, clock: u64, psw: Psw, timer: u64, control: Registers) -> Before
+    ensures { λ r. ⌜ ((v : ℕ → Cell) (c : Cpu) → c .psw ≡ psw → c .timer ≡ timer → c .control ≡ control → unit guest clock v c ≡ unitAfter guest clock v c r) ⌝ }
+{
+    if guest.interventions / 4 % 2 == 1 {
+        return Before::Ends(Reason::Stop);
+    }
+    if not_installed(psw) {
+        return Before::Ends(Reason::Validity);
+    }
+    if malformed(psw) {
+        return Before::Malformed;
+    }
+    if comparator_interrupts(guest, clock, psw, control) {
+        return Before::Ends(Reason::External(COMPARATOR));
+    }
+    if timer_interrupts(psw, timer, control) {
+        return Before::Ends(Reason::External(TIMER));
+    }
+    if external_request(guest, psw) {
+        return Before::Ends(Reason::ExternalRequest);
+    }
+    if io_request(guest, psw) {
+        return Before::Ends(Reason::IoRequest);
+    }
+    if waiting(psw) {
+        return Before::Ends(Reason::Wait);
+    }
+    Before::Instruction
+}

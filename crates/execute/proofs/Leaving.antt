@@ -1,0 +1,156 @@
+-- What `Done` leaves of a state, and when an outcome is left.
+-- Assumes nothing.
+use Prim.Native.Nat.{ℕ, _+_, _*_, _≤_, _<_}
+use native.Mathlib.Omega.{arith}
+use mathlib.Core.Path.{_≡_, ap, sym, subst, _∙_}
+use mathlib.Core.Bool.{Bool, true, false}
+use mathlib.Core.List.{List}
+use lib.ListN.{length}
+use lib.Seq.{sets, set-out}
+use Rattle.machine.specs.declared.Cpu.{Cpu}
+use Rattle.machine.specs.declared.Failure.{Failure}
+use Rattle.machine.specs.declared.Guest.{Guest}
+use Rattle.machine.specs.declared.Psw.{Psw}
+use Rattle.machine.specs.declared.Text.{Text}
+use Rattle.machine.specs.declared.Walk.{Walk}
+use Rattle.machine.specs.declared.Walk.the-variants.{Page, Failed}
+use Rattle.machine.specs.Record.{pswOf, pswBytes}
+use Rattle.machine.specs.Psw.{withPsw}
+use Rattle.machine.specs.Failures.{protection, hostFault}
+use Rattle.machine.specs.Host.{Host, hostVirtual, backing, view, referenced, changed, marked}
+use Rattle.machine.specs.Outcomes.{Outcome, faulted, Progress}
+use Rattle.machine.specs.Interruptions.{interrupt}
+use Rattle.address.specs.Operands.{markFrame}
+use Rattle.execute.specs.declared.Done.{Done}
+use Rattle.execute.specs.declared.Event.{Event}
+use Rattle.execute.specs.declared.Event.the-variants as event
+use Rattle.execute.specs.declared.Frames.{Frames}
+use Rattle.execute.specs.After.{eventOf, cpuAfter, storageAfter, keysAfter, Completes, leftBy, markText, Standing, Left, codeBytes, Before, areasOf}
+use Rattle.execute.proofs.Areas.{interrupt-failed, interrupt-protected, interrupt-open}
+
+-- with no register set, the state before the unit is left
+pub unchanged : (c : Cpu) {start : Psw} {after : Done} (how : Event) → Before c start after
+    → leftBy c (record { event = how; psw = start; timer = after .timer; control = after .control; register = 16; value = 0 }) ≡ c
+unfolding leftBy
+unchanged c how before = λ i. record {
+  psw = sym (before .ofPsw) i;
+  timer = sym (before .ofTimer) i;
+  control = sym (before .ofControl) i;
+  general = record { words = set-out (c .general .words) 16 0 (omega arith) i };
+}
+
+-- a host fault is left by the state before the unit, and storage and keys as they were
+left-faulted : (h : Host) (g : Guest) (c : Cpu) (f : Failure) (d : Done) {storage keys : List ℕ} → d .event ≡ event.Faulted f → leftBy c d ≡ c
+    → h .storage ≡ storage → h .keys ≡ keys → Left h g c (faulted f) d storage keys
+unfolding eventOf cpuAfter storageAfter keysAfter
+left-faulted h g c f d ended kept bytes marks = record { event = ended; cpu = kept; bytes = sym bytes; marks = sym marks }
+
+left-completed : (h : Host) (g : Guest) (c : Cpu) (o : Outcome) (d : Done) {to : Cpu} {stores marks : List ℕ → List ℕ} {storage keys : List ℕ}
+    → Completes (backing g h) o to stores marks → d .event ≡ event.Completed → leftBy c d ≡ to
+    → storage ≡ stores (h .storage) → keys ≡ marks (h .keys) → Left h g c o d storage keys
+left-completed h g c o d all ended to bytes marks = record {
+  event = ended ∙ sym (all .event);
+  cpu = to ∙ sym (all .cpu c);
+  bytes = bytes ∙ sym (all .storage (h .storage));
+  marks = marks ∙ sym (all .keys (h .keys));
+}
+
+fields-fit : (word address code : ℕ) (long : Bool) → code + 8 ≤ 4096 → code + length (codeBytes word address long) ≤ 4096
+fields-fit word address code true fits = omega arith
+fields-fit word address code false fits = omega arith
+
+fields-some : (word address : ℕ) (long : Bool) → 0 < length (codeBytes word address long)
+fields-some word address true = omega arith
+fields-some word address false = omega arith
+
+-- an interruption by the host page behind its areas
+module _ (h : Host) (x : Progress) {g : Guest} {clock : ℕ} {c : Cpu} {text : Text} {t : Frames} (standing : Standing h x g clock c text t)
+    (to : Cpu) (old code new word address : ℕ) (long : Bool) (oldFits : old + 8 ≤ 4096) (codeFits : code + 8 ≤ 4096) (newFits : new + 8 ≤ 4096) where
+  viewed : x .view ≡ view (x .guest) h
+  viewed = standing .ofView ∙ ap (λ k. view k h) (sym (standing .ofGuest))
+
+  behind : {w : Walk} → backing g h (g .prefix * 4096 + old) ≡ w → backing (x .guest) h (x .guest .prefix * 4096 + old) ≡ w
+  behind e = ap (λ k. backing k h (k .prefix * 4096 + old)) (standing .ofGuest) ∙ e
+
+  pub interrupted-failed : (f : Failure) (d : Done) {storage keys : List ℕ} → backing g h (g .prefix * 4096 + old) ≡ Failed f → d .event ≡ event.Faulted f → leftBy c d ≡ c
+      → h .storage ≡ storage → h .keys ≡ keys → Left h g c (interrupt x to (areasOf old code new) (codeBytes word address long)) d storage keys
+  interrupted-failed f d {storage = storage} {keys = keys} failed ended kept bytes marks =
+      subst
+      (λ o. Left h g c o d storage keys)
+      (sym
+      (interrupt-failed
+      h
+      x
+      viewed
+      to
+      (areasOf old code new)
+      (codeBytes word address long)
+      oldFits
+      (fields-fit word address code long codeFits)
+      newFits
+      (fields-some word address long)
+      f
+      (behind failed)))
+      (left-faulted h g c f d ended kept bytes marks)
+
+  pub interrupted-protected : (frame : ℕ) (d : Done) {storage keys : List ℕ} → backing g h (g .prefix * 4096 + old) ≡ Page frame true
+      → d .event ≡ event.Faulted (hostFault (hostVirtual g (g .prefix * 4096 + old)) protection) → leftBy c d ≡ c → h .storage ≡ storage → h .keys ≡ keys
+      → Left h g c (interrupt x to (areasOf old code new) (codeBytes word address long)) d storage keys
+  interrupted-protected frame d {storage = storage} {keys = keys} backed ended kept bytes marks =
+      subst
+      (λ o. Left h g c o d storage keys)
+      (sym
+      (interrupt-protected
+      h
+      x
+      viewed
+      to
+      (areasOf old code new)
+      (codeBytes word address long)
+      oldFits
+      (fields-fit word address code long codeFits)
+      newFits
+      (fields-some word address long)
+      frame
+      (behind backed)
+      ∙ ap (λ k. faulted (hostFault (hostVirtual k (k .prefix * 4096 + old)) protection)) (standing .ofGuest)))
+      (left-faulted h g c (hostFault (hostVirtual g (g .prefix * 4096 + old)) protection) d ended kept bytes marks)
+
+  pub interrupted-open : (frame : ℕ) (d : Done) {storage keys : List ℕ} → backing g h (g .prefix * 4096 + old) ≡ Page frame false → d .event ≡ event.Completed
+      → leftBy c d ≡ withPsw to (pswOf (h .storage) (frame * 4096 + new))
+      → storage ≡ sets (sets (h .storage) (frame * 4096 + old) (pswBytes (to .psw))) (frame * 4096 + code) (codeBytes word address long)
+      → keys ≡ markFrame changed frame (markFrame referenced frame (markText t (h .keys)))
+      → Left h g c (interrupt x to (areasOf old code new) (codeBytes word address long)) d storage keys
+  interrupted-open frame d backed ended left bytes marks =
+      left-completed
+      h
+      g
+      c
+      _
+      d
+      (subst
+      (λ k.
+      Completes
+      (backing k h)
+      (interrupt x to (areasOf old code new) (codeBytes word address long))
+      (withPsw to (pswOf (h .storage) (frame * 4096 + new)))
+      (λ l. sets (sets l (frame * 4096 + old) (pswBytes (to .psw))) (frame * 4096 + code) (codeBytes word address long))
+      (λ l. markFrame changed frame (markFrame referenced frame (marked (backing k h) referenced (x .fetched) l))))
+      (standing .ofGuest)
+      (interrupt-open
+      h
+      x
+      viewed
+      to
+      (areasOf old code new)
+      (codeBytes word address long)
+      oldFits
+      (fields-fit word address code long codeFits)
+      newFits
+      (fields-some word address long)
+      frame
+      (behind backed)))
+      ended
+      left
+      bytes
+      (marks ∙ ap (λ l. markFrame changed frame (markFrame referenced frame l)) (sym (standing .marks (h .keys))))

@@ -1,0 +1,4 @@
+pub mod Operations
+pub mod Areas
+pub mod Words
+pub mod Leaving

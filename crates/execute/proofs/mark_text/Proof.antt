@@ -1,0 +1,44 @@
+-- `execute::mark_text` meets its contract.
+-- Assumes nothing.
+use borrow.Author.Tests.{ne-eqb}
+use borrow.Author.Needs.{needs}
+use Rattle.machine.proofs.Tests.{tests}
+use Rattle.execute.specs.After.{markText}
+use Rattle.execute.proofs.mark_text.Statement.{statement}
+use Rattle.execute.proofs.mark_text.Tie as tie
+
+returns : tie.Need-returns
+unfolding markText
+returns c = search tests
+
+mark-fetched-requires : tie.Need-mark-fetched-requires
+mark-fetched-requires c κs = search needs
+
+same-length : tie.Need-same-length
+same-length c = search needs
+
+returns-2 : tie.Need-returns-2
+unfolding markText
+returns-2 c = search tests
+
+mark-fetched-requires-2 : tie.Need-mark-fetched-requires-2
+mark-fetched-requires-2 c κs = search needs
+
+same-length-2 : tie.Need-same-length-2
+same-length-2 c = search needs
+
+returns-3 : tie.Need-returns-3
+unfolding markText
+returns-3 c = rw (ne-eqb _ _ (c .before .before .before .before .before .before .before .before .before .if1 .left), ne-eqb _ _ (c .before .before .before .before .if2 .left), c .before .before .mark-fetched2 .ensures, c .before .before .before .before .before .before .before .mark-fetched .ensures)
+
+pub mark-text-spec : {M : Type 1} → statement M
+mark-text-spec =
+    tie.close
+    (tie.spec
+    returns
+    mark-fetched-requires
+    same-length
+    returns-2
+    mark-fetched-requires-2
+    same-length-2
+    returns-3)

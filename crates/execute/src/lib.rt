@@ -1,0 +1,175 @@
+// One unit put into effect: the effect of each instruction and of each exception on state, storage and keys.
+ghost use mathlib.Core.Path.{_≡_};
+ghost use Prim.Native.Nat.{ℕ, _+_, _*_, _≤_};
+ghost use lib.ListN.{length};
+ghost use lib.Seq.{sets};
+ghost use Rattle.machine.specs.Record.{pswBytes};
+ghost use Rattle.machine.specs.declared.Cpu.{Cpu};
+ghost use Rattle.machine.specs.declared.Text.{Text};
+ghost use Rattle.machine.specs.Psw.{withPsw};
+ghost use Rattle.machine.specs.Host.{Host, backing};
+ghost use Rattle.machine.specs.Outcomes.{Progress};
+ghost use Rattle.machine.specs.Interruptions.{interrupt};
+ghost use Rattle.storage.specs.Entered.{Entered};
+ghost use Rattle.address.specs.Touching.{Inside, Backed};
+ghost use Rattle.execute.specs.After.{WithKeys, markText, leftBy, Before, Standing, Left, areasOf, codeBytes};
+use machine::Failure;
+use machine::Guest;
+use machine::Psw;
+use machine::Reason;
+use machine::Registers;
+use machine::Walk;
+
+// How a unit ends.
+pub enum Event {
+    Completed,
+    Intercepted(Reason),
+    Faulted(Failure),
+}
+
+// What a unit leaves: how it ended, and the state, in which one general register may have a new value (register 16: none).
+pub struct Done {
+    pub event: Event,
+    pub psw: Psw,
+    pub timer: u64,
+    pub control: Registers,
+    pub register: u32,
+    pub value: u32,
+}
+
+// The frames that an instruction's text was fetched from: none, one or two.
+pub struct Frames {
+    pub count: u32,
+    pub first: u32,
+    pub second: u32,
+}
+
+const PROTECTION: u32 = 4;
+
+const NONE: u32 = 16;
+
+// A host fault: the state is the one before the unit.
+fn faulted(start: Psw, after: Done, f: Failure) -> Done
+    ensures { λ r. ⌜ (r .event ≡ Event.Faulted f) × ((c : Cpu) → Before c start after → leftBy c r ≡ c) ⌝ }
+{
+    let control = after.control;
+    Done {
+        event: Event::Faulted(f),
+        psw: start,
+        timer: after.timer,
+        control,
+        register: NONE,
+        value: 0,
+    }
+}
+
+// A completed unit with another PSW.
+fn with_psw(after: Done, psw: Psw) -> Done
+    ensures { λ r. ⌜ (r .event ≡ Event.Completed) × ((c : Cpu) → leftBy c r ≡ withPsw (leftBy c after) psw) ⌝ }
+{
+    let control = after.control;
+    Done {
+        event: Event::Completed,
+        psw,
+        timer: after.timer,
+        control,
+        register: after.register,
+        value: after.value,
+    }
+}
+
+// Marks the frames of the text.
+fn mark_text(keys: &mut [u8], t: Frames)
+    requires { ⌜ WithKeys (now keys) t ⌝ }
+    ensures { λ _. ⌜ now (keys .exit) ≡ markText t (now (keys .entry)) ⌝ }
+{
+    let count = t.count;
+    if count == 0 {
+        return;
+    }
+    writer::mark_fetched(keys, t.first);
+    if count == 1 {
+        return;
+    }
+    writer::mark_fetched(keys, t.second);
+}
+
+// Stores an old PSW and the code fields of an interruption, the address among them where it is long.
+fn put_areas(
+    storage: &mut [u8],
+    old: usize,
+    psw: Psw,
+    code: usize,
+    word: u32,
+    address: u32,
+    long: bool,
+)
+    requires { ⌜ old + 8 ≤ length (now storage) ⌝ }
+    requires { ⌜ code + 8 ≤ length (now storage) ⌝ }
+    ensures { λ _. ⌜ now (storage .exit) ≡ sets (sets (now (storage .entry)) old (pswBytes psw)) code (codeBytes word address long) ⌝ }
+{
+    words::put_word(storage, old, psw.left);
+    words::put_word(storage, old + 4, psw.right);
+    words::put_word(storage, code, word);
+    if long {
+        words::put_word(storage, code + 4, address);
+    }
+}
+
+// An interruption, by the host page behind its areas. The PSW of `after` becomes the old one; `start` is the unit's own.
+pub fn interrupt_at(
+    storage: &mut [u8],
+    keys: &mut [u8],
+    guest: Guest,
+    start: Psw,
+    after: Done,
+    old: u32,
+    code: u32,
+    new: u32,
+    word: u32,
+    address: u32,
+    long: bool,
+    t: Frames,
+    w: Walk,
+) -> Done
+    requires { ⌜ Entered guest × WithKeys (now keys) t ⌝ }
+    requires { ⌜ Inside (now storage) w × Backed guest (now keys) (guest .prefix * 4096 + old) w ⌝ }
+    requires { ⌜ (old + 8 ≤ 4096) × (code + 8 ≤ 4096) × (new + 8 ≤ 4096) ⌝ }
+    ensures { λ r. ⌜ ((h : Host) (x : Progress) (clock : ℕ) (c : Cpu) (text : Text) → h .storage ≡ now (storage .entry) → h .keys ≡ now (keys .entry)
+        → w ≡ backing guest h (guest .prefix * 4096 + old) → Standing h x guest clock c text t → Before c start after
+        → Left h guest c (interrupt x (leftBy c after) (areasOf old code new) (codeBytes word address long)) r (now (storage .exit)) (now (keys .exit))) ⌝ }
+{
+    match w {
+        Walk::Failed(f) => faulted(start, after, f),
+        Walk::Page { frame, protected } => {
+            if protected {
+                return faulted(
+                    start,
+                    after,
+                    Failure {
+                        host: true,
+                        code: PROTECTION,
+                        address: guest.origin as u32 * 65536 + (guest.prefix * 4096 + old),
+                    },
+                );
+            }
+            let base = frame as usize * 4096;
+            let left = words::word_at(storage, base + new as usize);
+            let right = words::word_at(storage, base + new as usize + 4);
+            let psw = after.psw;
+            put_areas(
+                storage,
+                base + old as usize,
+                psw,
+                base + code as usize,
+                word,
+                address,
+                long,
+            );
+            mark_text(keys, t);
+            writer::mark_fetched(keys, frame);
+            writer::mark_stored(keys, frame);
+            with_psw(after, Psw { left, right })
+        }
+    }
+}
