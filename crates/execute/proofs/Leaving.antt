@@ -40,7 +40,7 @@ unchanged c how before = λ i. record {
 }
 
 -- a host fault is left by the state before the unit, and storage and keys as they were
-left-faulted : (h : Host) (g : Guest) (c : Cpu) (f : Failure) (d : Done) {storage keys : List ℕ} → d .event ≡ event.Faulted f → leftBy c d ≡ c
+pub left-faulted : (h : Host) (g : Guest) (c : Cpu) (f : Failure) (d : Done) {storage keys : List ℕ} → d .event ≡ event.Faulted f → leftBy c d ≡ c
     → h .storage ≡ storage → h .keys ≡ keys → Left h g c (faulted f) d storage keys
 unfolding eventOf cpuAfter storageAfter keysAfter
 left-faulted h g c f d ended kept bytes marks = record { event = ended; cpu = kept; bytes = sym bytes; marks = sym marks }

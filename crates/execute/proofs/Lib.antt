@@ -2,3 +2,4 @@ pub mod Operations
 pub mod Areas
 pub mod Words
 pub mod Leaving
+pub mod Exceptions

@@ -58,6 +58,10 @@ leftBy c d = record {
   general = record { words = set (c .general .words) (d .register) (d .value) };
 }
 
+-- the same unit, ended with another PSW
+abbrev pub endedWith : Event → Done → Psw → Done
+endedWith how d psw = record { event = how; psw = psw; timer = d .timer; control = d .control; register = d .register; value = d .value }
+
 -- the frames of a text have keys
 pub record WithKeys (keys : List ℕ) (t : Frames) : Type 0 where
   pub first : t .first < length keys

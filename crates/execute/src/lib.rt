@@ -1,23 +1,28 @@
 // One unit put into effect: the effect of each instruction and of each exception on state, storage and keys.
 ghost use mathlib.Core.Path.{_≡_};
-ghost use Prim.Native.Nat.{ℕ, _+_, _*_, _≤_};
+ghost use Prim.Native.Nat.{ℕ, _+_, _*_, _≤_, _<_};
+ghost use mathlib.Core.Bool.{_&&_};
+ghost use lib.Dec.{eqb};
 ghost use lib.ListN.{length};
 ghost use lib.Seq.{sets};
 ghost use Rattle.machine.specs.Record.{pswBytes};
 ghost use Rattle.machine.specs.declared.Cpu.{Cpu};
-ghost use Rattle.machine.specs.declared.Text.{Text};
 ghost use Rattle.machine.specs.Psw.{withPsw};
-ghost use Rattle.machine.specs.Host.{Host, backing};
+ghost use Rattle.machine.specs.Words.{bit};
+ghost use Rattle.machine.specs.Refusals.{framesOf};
+ghost use Rattle.machine.specs.Failures.{operation, isTranslation};
+ghost use Rattle.machine.specs.Host.{Host, host, backing};
 ghost use Rattle.machine.specs.Outcomes.{Progress};
-ghost use Rattle.machine.specs.Interruptions.{interrupt};
+ghost use Rattle.machine.specs.Interruptions.{interrupt, afterException, exception};
 ghost use Rattle.storage.specs.Entered.{Entered};
 ghost use Rattle.address.specs.Touching.{Inside, Backed};
-ghost use Rattle.execute.specs.After.{WithKeys, markText, leftBy, Before, Standing, Left, areasOf, codeBytes};
+ghost use Rattle.execute.specs.After.{endedWith, WithKeys, markText, leftBy, Before, Standing, Left, areasOf, codeBytes};
 use machine::Failure;
 use machine::Guest;
 use machine::Psw;
 use machine::Reason;
 use machine::Registers;
+use machine::Text;
 use machine::Walk;
 
 // How a unit ends.
@@ -44,7 +49,13 @@ pub struct Frames {
     pub second: u32,
 }
 
+const OPERATION: u32 = 1;
+
 const PROTECTION: u32 = 4;
+
+const SEGMENT: u32 = 16;
+
+const PAGE: u32 = 17;
 
 const NONE: u32 = 16;
 
@@ -63,13 +74,13 @@ fn faulted(start: Psw, after: Done, f: Failure) -> Done
     }
 }
 
-// A completed unit with another PSW.
-fn with_psw(after: Done, psw: Psw) -> Done
-    ensures { λ r. ⌜ (r .event ≡ Event.Completed) × ((c : Cpu) → leftBy c r ≡ withPsw (leftBy c after) psw) ⌝ }
+// The same unit, ended with another PSW.
+fn ended_with(event: Event, after: Done, psw: Psw) -> Done
+    ensures { λ r. ⌜ r ≡ endedWith event after psw ⌝ }
 {
     let control = after.control;
     Done {
-        event: Event::Completed,
+        event,
         psw,
         timer: after.timer,
         control,
@@ -117,7 +128,7 @@ fn put_areas(
 }
 
 // An interruption, by the host page behind its areas. The PSW of `after` becomes the old one; `start` is the unit's own.
-pub fn interrupt_at(
+fn interrupt_at(
     storage: &mut [u8],
     keys: &mut [u8],
     guest: Guest,
@@ -169,7 +180,138 @@ pub fn interrupt_at(
             mark_text(keys, t);
             writer::mark_fetched(keys, frame);
             writer::mark_stored(keys, frame);
-            with_psw(after, Psw { left, right })
+            ended_with(Event::Completed, after, Psw { left, right })
         }
     }
+}
+
+// An interruption: the areas of every class stand in the prefix page.
+pub fn interrupt(
+    storage: &mut [u8],
+    keys: &mut [u8],
+    designation: u32,
+    guest: Guest,
+    start: Psw,
+    after: Done,
+    old: u32,
+    code: u32,
+    new: u32,
+    word: u32,
+    address: u32,
+    long: bool,
+    t: Frames,
+) -> Done
+    requires { ⌜ Entered guest × WithKeys (now keys) t × (framesOf (now storage) ≤ length (now keys)) ⌝ }
+    requires { ⌜ (old + 8 ≤ 4096) × (code + 8 ≤ 4096) × (new + 8 ≤ 4096) ⌝ }
+    ensures { λ r. ⌜ ((x : Progress) (clock : ℕ) (c : Cpu) (text : Text)
+        → Standing (host designation (now (storage .entry)) (now (keys .entry))) x guest clock c text t → Before c start after
+        → Left (host designation (now (storage .entry)) (now (keys .entry))) guest c
+        (interrupt x (leftBy c after) (areasOf old code new) (codeBytes word address long)) r (now (storage .exit)) (now (keys .exit))) ⌝ }
+{
+    let absolute = guest.prefix * 4096 + old;
+    let behind = storage::behind(storage, designation, guest.origin, guest.extent, absolute);
+    let page = storage::unpacked(guest.origin, absolute, behind);
+    interrupt_at(
+        storage,
+        keys,
+        guest,
+        start,
+        after,
+        old,
+        code,
+        new,
+        word,
+        address,
+        long,
+        t,
+        page,
+    )
+}
+
+// A segment or page translation exception.
+fn translation(code: u32) -> bool
+    ensures { λ r. ⌜ r ≡ isTranslation code ⌝ }
+{
+    if code == SEGMENT {
+        return true;
+    }
+    code == PAGE
+}
+
+// The PSW behind an exception: at the instruction after a translation exception or with ILC 0, otherwise past it.
+fn after_exception(psw: Psw, ilc: u8, code: u32) -> Psw
+    requires { ⌜ ilc ≤ 3 ⌝ }
+    ensures { λ r. ⌜ ((x : Progress) (c : Cpu) (f : Failure) → x .text .ilc ≡ ilc → f .code ≡ code → c .psw ≡ psw → withPsw c r ≡ afterException x c f) ⌝ }
+{
+    if translation(code) {
+        return psw;
+    }
+    if ilc == 0 {
+        return psw;
+    }
+    cpu::advanced(psw, ilc as u32)
+}
+
+// An operation exception that the guest's controls intercept.
+fn intercepts_operation(guest: Guest, code: u32) -> bool
+    ensures { λ r. ⌜ r ≡ (eqb code operation && bit 8 0 (guest .interceptions)) ⌝ }
+{
+    if code == OPERATION {
+        return guest.interceptions / 128 % 2 == 1;
+    }
+    false
+}
+
+// A program exception or a host fault: a fault, an interception or a program interruption.
+pub fn exception(
+    storage: &mut [u8],
+    keys: &mut [u8],
+    designation: u32,
+    guest: Guest,
+    start: Psw,
+    after: Done,
+    text: Text,
+    f: Failure,
+    t: Frames,
+) -> Done
+    requires { ⌜ Entered guest × WithKeys (now keys) t × (framesOf (now storage) ≤ length (now keys)) ⌝ }
+    requires { ⌜ (text .ilc ≤ 3) × (f .code < 65536) ⌝ }
+    ensures { λ r. ⌜ ((x : Progress) (clock : ℕ) (c : Cpu)
+        → Standing (host designation (now (storage .entry)) (now (keys .entry))) x guest clock c text t → Before c start after
+        → Left (host designation (now (storage .entry)) (now (keys .entry))) guest c (exception x (leftBy c after) f) r
+        (now (storage .exit)) (now (keys .exit))) ⌝ }
+{
+    if f.host {
+        return faulted(start, after, f);
+    }
+    let psw = after_exception(after.psw, text.ilc, f.code);
+    if intercepts_operation(guest, f.code) {
+        return ended_with(Event::Intercepted(Reason::Operation(text)), after, psw);
+    }
+    if guest.interceptions / 64 % 2 == 1 {
+        let reason = Reason::Program {
+            code: f.code as u16,
+            ilc: text.ilc,
+            address: f.address,
+        };
+        return ended_with(Event::Intercepted(reason), after, psw);
+    }
+    let word = text.ilc as u32 * 131072 + f.code;
+    let long = translation(f.code);
+    let done = ended_with(Event::Completed, after, psw);
+    interrupt(
+        storage,
+        keys,
+        designation,
+        guest,
+        start,
+        done,
+        40,
+        140,
+        104,
+        word,
+        f.address,
+        long,
+        t,
+    )
 }

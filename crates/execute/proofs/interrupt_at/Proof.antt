@@ -43,11 +43,16 @@ faulted-requires-2 c κs = search needs
 
 returns : tie.Need-returns
 returns c =
-    let a = c .before .before .before .before .before .before .before .before .before .args in
-    let pre = c .before .before .before .before .before .before .before .before .before .pre in
-    let (old, code, new) = c .before .before .before .before .before .before .before .before .before .pre .1 .1 in
+    let back5 = c .before .before .before .before .before in
+    let back9 = back5 .before .before .before .before in
+    let a = back9 .args in
+    let pre = back9 .pre in
+    let (old, code, new) = back9 .pre .1 .1 in
     λ h x clock k text bytes marks behind standing before.
-    interrupted-protected h x standing (leftBy k (a .after)) (a .old) (a .code) (a .new) (a .word) (a .address) (a .long) old code new (c .before .before .before .before .before .w2 .given .0 .0) (c .faulted2 .result) (sym behind ∙ c .before .before .before .before .before .w2 .given .1 ∙ ap (Page (c .before .before .before .before .before .w2 .given .0 .0)) (c .before .before .before .if1 .taken)) (c .faulted2 .ensures .0) (c .faulted2 .ensures .1 k before) bytes marks
+    interrupted-protected h x standing (leftBy k (a .after)) (a .old) (a .code) (a .new) (a .word) (a .address) (a .long) old code
+    new (back5 .w2 .given .0 .0) (c .faulted2 .result)
+    (sym behind ∙ back5 .w2 .given .1 ∙ ap (Page (back5 .w2 .given .0 .0)) (c .before .before .before .if1 .taken))
+    (c .faulted2 .ensures .0) (c .faulted2 .ensures .1 k before) bytes marks
 
 cast-base : tie.Need-cast-base
 cast-base c = search needs
@@ -59,7 +64,13 @@ add-word-at : tie.Need-add-word-at
 add-word-at c = search needs
 
 word-at-requires : tie.Need-word-at-requires
-word-at-requires c κs = let pre = c .before .before .before .before .before .before .before .pre in let inside = subst (Inside _) (c .before .before .before .w2 .given .1) (pre .1 .0 .0) in let (key, small, below) = subst (Backed _ _ _) (c .before .before .before .w2 .given .1) (pre .1 .0 .1) in let (old, code, new) = pre .1 .1 in omega arith
+word-at-requires c κs =
+    let back7 = c .before .before .before .before .before .before .before in
+    let pre = back7 .pre in
+    let inside = subst (Inside _) (c .before .before .before .w2 .given .1) (pre .1 .0 .0) in
+    let (key, small, below) = subst (Backed _ _ _) (c .before .before .before .w2 .given .1) (pre .1 .0 .1) in
+    let (old, code, new) = pre .1 .1 in
+    omega arith
 
 add-word-at-2 : tie.Need-add-word-at-2
 add-word-at-2 c = search needs
@@ -68,7 +79,14 @@ add-word-at-3 : tie.Need-add-word-at-3
 add-word-at-3 c = search needs
 
 word-at-requires-2 : tie.Need-word-at-requires-2
-word-at-requires-2 c κs = let pre = c .before .before .before .before .before .before .before .before .before .pre in let inside = subst (Inside _) (c .before .before .before .before .before .w2 .given .1) (pre .1 .0 .0) in let (key, small, below) = subst (Backed _ _ _) (c .before .before .before .before .before .w2 .given .1) (pre .1 .0 .1) in let (old, code, new) = pre .1 .1 in omega arith
+word-at-requires-2 c κs =
+    let back5 = c .before .before .before .before .before in
+    let back9 = back5 .before .before .before .before in
+    let pre = back9 .pre in
+    let inside = subst (Inside _) (back5 .w2 .given .1) (pre .1 .0 .0) in
+    let (key, small, below) = subst (Backed _ _ _) (back5 .w2 .given .1) (pre .1 .0 .1) in
+    let (old, code, new) = pre .1 .1 in
+    omega arith
 
 add-put-areas : tie.Need-add-put-areas
 add-put-areas c = search needs
@@ -77,19 +95,40 @@ add-put-areas-2 : tie.Need-add-put-areas-2
 add-put-areas-2 c = search needs
 
 put-areas-requires : tie.Need-put-areas-requires
-put-areas-requires c κs = let pre = c .before .before .before .before .before .before .before .before .before .before .before .before .pre in let inside = subst (Inside _) (c .before .before .before .before .before .before .before .before .w2 .given .1) (pre .1 .0 .0) in let (key, small, below) = subst (Backed _ _ _) (c .before .before .before .before .before .before .before .before .w2 .given .1) (pre .1 .0 .1) in let (old, code, new) = pre .1 .1 in (omega arith, omega arith)
+put-areas-requires c κs =
+    let back8 = c .before .before .before .before .before .before .before .before in
+    let back12 = back8 .before .before .before .before in
+    let pre = back12 .pre in
+    let inside = subst (Inside _) (back8 .w2 .given .1) (pre .1 .0 .0) in
+    let (key, small, below) = subst (Backed _ _ _) (back8 .w2 .given .1) (pre .1 .0 .1) in
+    let (old, code, new) = pre .1 .1 in
+    (omega arith, omega arith)
 
 mark-text-requires : tie.Need-mark-text-requires
 mark-text-requires c κs = search needs
 
 mark-fetched-requires : tie.Need-mark-fetched-requires
-mark-fetched-requires c κs = let pre = c .before .before .before .before .before .before .before .before .before .before .before .before .before .before .before .before .before .before .before .before .pre in let inside = subst (Inside _) (c .before .before .before .before .before .before .before .before .before .before .before .before .before .before .before .before .w2 .given .1) (pre .1 .0 .0) in let (key, small, below) = subst (Backed _ _ _) (c .before .before .before .before .before .before .before .before .before .before .before .before .before .before .before .before .w2 .given .1) (pre .1 .0 .1) in let (old, code, new) = pre .1 .1 in search needs
+mark-fetched-requires c κs =
+    let back16 = c .before .before .before .before .before .before .before .before .before .before .before .before .before .before .before .before in
+    let back20 = back16 .before .before .before .before in
+    let pre = back20 .pre in
+    let inside = subst (Inside _) (back16 .w2 .given .1) (pre .1 .0 .0) in
+    let (key, small, below) = subst (Backed _ _ _) (back16 .w2 .given .1) (pre .1 .0 .1) in
+    let (old, code, new) = pre .1 .1 in
+    search needs
 
 mark-stored-requires : tie.Need-mark-stored-requires
-mark-stored-requires c κs = let pre = c .before .before .before .before .before .before .before .before .before .before .before .before .before .before .before .before .before .before .before .before .before .before .before .before .pre in let inside = subst (Inside _) (c .before .before .before .before .before .before .before .before .before .before .before .before .before .before .before .before .before .before .before .before .w2 .given .1) (pre .1 .0 .0) in let (key, small, below) = subst (Backed _ _ _) (c .before .before .before .before .before .before .before .before .before .before .before .before .before .before .before .before .before .before .before .before .w2 .given .1) (pre .1 .0 .1) in let (old, code, new) = pre .1 .1 in search needs
+mark-stored-requires c κs =
+    let back20 = c .before .before .before .before .before .before .before .before .before .before .before .before .before .before .before .before .before .before .before .before in
+    let back24 = back20 .before .before .before .before in
+    let pre = back24 .pre in
+    let inside = subst (Inside _) (back20 .w2 .given .1) (pre .1 .0 .0) in
+    let (key, small, below) = subst (Backed _ _ _) (back20 .w2 .given .1) (pre .1 .0 .1) in
+    let (old, code, new) = pre .1 .1 in
+    search needs
 
-with-psw-requires : tie.Need-with-psw-requires
-with-psw-requires c κs = search needs
+ended-with-requires : tie.Need-ended-with-requires
+ended-with-requires c κs = search needs
 
 returns-2 : tie.Need-returns-2
 returns-2 c =
@@ -97,7 +136,9 @@ returns-2 c =
     let pre = c .before .before .before .before .before .before .pre in
     let (old, code, new) = c .before .before .before .before .before .before .pre .1 .1 in
     λ h x clock k text bytes marks behind standing before.
-    interrupted-failed h x standing (leftBy k (a .after)) (a .old) (a .code) (a .new) (a .word) (a .address) (a .long) old code new (c .before .before .w .given .0 .0) (c .faulted .result) (sym behind ∙ c .before .before .w .given .1) (c .faulted .ensures .0) (c .faulted .ensures .1 k before) bytes marks
+    interrupted-failed h x standing (leftBy k (a .after)) (a .old) (a .code) (a .new) (a .word) (a .address) (a .long) old code
+    new (c .before .before .w .given .0 .0) (c .faulted .result) (sym behind ∙ c .before .before .w .given .1)
+    (c .faulted .ensures .0) (c .faulted .ensures .1 k before) bytes marks
 
 same-length : tie.Need-same-length
 same-length c = search needs
@@ -106,14 +147,28 @@ same-length-2 : tie.Need-same-length-2
 same-length-2 c = search needs
 
 returns-3 : tie.Need-returns-3
-unfolding leftBy pswOf
+unfolding leftBy withPsw pswOf
 returns-3 c =
-    let a = c .before .before .before .before .before .before .before .before .before .before .before .before .before .before .before .before .before .before .before .before .before .before .before .before .before .before .before .before .args in
-    let pre = c .before .before .before .before .before .before .before .before .before .before .before .before .before .before .before .before .before .before .before .before .before .before .before .before .before .before .before .before .pre in
-    let (old, code, new) = c .before .before .before .before .before .before .before .before .before .before .before .before .before .before .before .before .before .before .before .before .before .before .before .before .before .before .before .before .pre .1 .1 in
-    let frame = c .before .before .before .before .before .before .before .before .before .before .before .before .before .before .before .before .before .before .before .before .before .before .before .before .w2 .given .0 .0 in
+    let back7 = c .before .before .before .before .before .before .before in
+    let back11 = back7 .before .before .before .before in
+    let back15 = back11 .before .before .before .before in
+    let back18 = back15 .before .before .before in
+    let back20 = back18 .before .before in
+    let back22 = back20 .before .before in
+    let back24 = back22 .before .before in
+    let back28 = back24 .before .before .before .before in
+    let a = back28 .args in
+    let pre = back28 .pre in
+    let (old, code, new) = back28 .pre .1 .1 in
+    let frame = back24 .w2 .given .0 .0 in
     λ h x clock k text bytes marks behind standing before.
-    interrupted-open h x standing (leftBy k (a .after)) (a .old) (a .code) (a .new) (a .word) (a .address) (a .long) old code new frame (c .with-psw .result) (sym behind ∙ c .before .before .before .before .before .before .before .before .before .before .before .before .before .before .before .before .before .before .before .before .before .before .before .before .w2 .given .1 ∙ ap (Page frame) (c .before .before .before .before .before .before .before .before .before .before .before .before .before .before .before .before .before .before .before .before .before .before .if1 .left)) (c .with-psw .ensures .0) (c .with-psw .ensures .1 k ∙ ap (withPsw (leftBy k (a .after))) (rw bytes (λ i. record { left = c .before .before .before .before .before .before .before .before .before .before .before .before .before .before .before .before .before .before .before .before .word-at .ensures i; right = c .before .before .before .before .before .before .before .before .before .before .before .before .before .before .before .before .before .before .word-at2 .ensures i }))) (rw bytes (c .before .before .before .before .before .before .before .before .before .before .before .before .before .before .before .put-areas .ensures)) (c .before .before .before .mark-stored .ensures ∙ ap (markFrame changed frame) (c .before .before .before .before .before .before .before .mark-fetched .ensures ∙ ap (markFrame referenced frame) (c .before .before .before .before .before .before .before .before .before .before .before .mark-text .ensures ∙ ap (markText (a .t)) (sym marks))))
+    interrupted-open h x standing (leftBy k (a .after)) (a .old) (a .code) (a .new) (a .word) (a .address) (a .long) old code new
+    frame (c .ended-with .result)
+    (sym behind ∙ back24 .w2 .given .1 ∙ ap (Page frame) (back22 .if1 .left))
+    (ap (λ d. d .event) (c .ended-with .ensures))
+    (ap (leftBy k) (c .ended-with .ensures) ∙ ap (withPsw (leftBy k (a .after))) (rw bytes (λ i. record { left = back20 .word-at .ensures i; right = back18 .word-at2 .ensures i })))
+    (rw bytes (back15 .put-areas .ensures))
+    (c .before .before .before .mark-stored .ensures ∙ ap (markFrame changed frame) (back7 .mark-fetched .ensures ∙ ap (markFrame referenced frame) (back11 .mark-text .ensures ∙ ap (markText (a .t)) (sym marks))))
 
 pub interrupt-at-spec : {M : Type 1} → statement M
 interrupt-at-spec =
@@ -142,7 +197,7 @@ interrupt-at-spec =
     mark-text-requires
     mark-fetched-requires
     mark-stored-requires
-    with-psw-requires
+    ended-with-requires
     returns-2
     same-length
     same-length-2

@@ -29,7 +29,11 @@ same-length-2 c = search needs
 
 returns-3 : tie.Need-returns-3
 unfolding markText
-returns-3 c = rw (ne-eqb _ _ (c .before .before .before .before .before .before .before .before .before .if1 .left), ne-eqb _ _ (c .before .before .before .before .if2 .left), c .before .before .mark-fetched2 .ensures, c .before .before .before .before .before .before .before .mark-fetched .ensures)
+returns-3 c =
+    let back4 = c .before .before .before .before in
+    let back7 = back4 .before .before .before in
+    let back9 = back7 .before .before in
+    rw (ne-eqb _ _ (back9 .if1 .left), ne-eqb _ _ (back4 .if2 .left), c .before .before .mark-fetched2 .ensures, back7 .mark-fetched .ensures)
 
 pub mark-text-spec : {M : Type 1} → statement M
 mark-text-spec =

@@ -33,27 +33,35 @@ same-length c = search needs
 
 returns : tie.Need-returns
 returns c =
-    rw (c .before .before .before .before .if1 .taken)
+    let back4 = c .before .before .before .before in
+    let back7 = back4 .before .before .before in
+    let back11 = back7 .before .before .before .before in
+    let back15 = back11 .before .before .before .before in
+    let back18 = back15 .before .before .before in
+    rw (back4 .if1 .taken)
     (c .before .before .put-word4 .ensures
-    ∙ ap (λ t. sets t (c .before .before .before .before .before .before .before .before .before .before .before .before .before .before .before .before .before .before .args .code + 4) (wordBytes (c .before .before .before .before .before .before .before .before .before .before .before .before .before .before .before .before .before .before .args .address)))
-    (c .before .before .before .before .before .before .before .put-word3 .ensures
-    ∙ ap (λ t. sets t (c .before .before .before .before .before .before .before .before .before .before .before .before .before .before .before .before .before .before .args .code) (wordBytes (c .before .before .before .before .before .before .before .before .before .before .before .before .before .before .before .before .before .before .args .word)))
-    (c .before .before .before .before .before .before .before .before .before .before .before .put-word2 .ensures
-    ∙ ap (λ t. sets t (c .before .before .before .before .before .before .before .before .before .before .before .before .before .before .before .before .before .before .args .old + 4) (wordBytes (c .before .before .before .before .before .before .before .before .before .before .before .before .before .before .before .before .before .before .args .psw .right))) (c .before .before .before .before .before .before .before .before .before .before .before .before .before .before .before .put-word .ensures)
-    ∙ two-words (c .before .before .before .before .before .before .before .before .before .before .before .before .before .before .before .before .before .before .args .storage .now) (c .before .before .before .before .before .before .before .before .before .before .before .before .before .before .before .before .before .before .args .old) (wordBytes (c .before .before .before .before .before .before .before .before .before .before .before .before .before .before .before .before .before .before .args .psw .left)) (wordBytes (c .before .before .before .before .before .before .before .before .before .before .before .before .before .before .before .before .before .before .args .psw .right)) refl))
-    ∙ two-words (sets (c .before .before .before .before .before .before .before .before .before .before .before .before .before .before .before .before .before .before .args .storage .now) (c .before .before .before .before .before .before .before .before .before .before .before .before .before .before .before .before .before .before .args .old) (pswBytes (c .before .before .before .before .before .before .before .before .before .before .before .before .before .before .before .before .before .before .args .psw))) (c .before .before .before .before .before .before .before .before .before .before .before .before .before .before .before .before .before .before .args .code) (wordBytes (c .before .before .before .before .before .before .before .before .before .before .before .before .before .before .before .before .before .before .args .word)) (wordBytes (c .before .before .before .before .before .before .before .before .before .before .before .before .before .before .before .before .before .before .args .address)) refl)
+    ∙ ap (λ t. sets t (back18 .args .code + 4) (wordBytes (back18 .args .address)))
+    (back7 .put-word3 .ensures
+    ∙ ap (λ t. sets t (back18 .args .code) (wordBytes (back18 .args .word)))
+    (back11 .put-word2 .ensures
+    ∙ ap (λ t. sets t (back18 .args .old + 4) (wordBytes (back18 .args .psw .right))) (back15 .put-word .ensures)
+    ∙ two-words (back18 .args .storage .now) (back18 .args .old) (wordBytes (back18 .args .psw .left)) (wordBytes (back18 .args .psw .right)) refl))
+    ∙ two-words (sets (back18 .args .storage .now) (back18 .args .old) (pswBytes (back18 .args .psw))) (back18 .args .code) (wordBytes (back18 .args .word)) (wordBytes (back18 .args .address)) refl)
 
 same-length-2 : tie.Need-same-length-2
 same-length-2 c = search needs
 
 returns-2 : tie.Need-returns-2
 returns-2 c =
+    let back7 = c .before .before .before .before .before .before .before in
+    let back11 = back7 .before .before .before .before in
+    let back14 = back11 .before .before .before in
     rw (c .if1 .left)
     (c .before .before .before .put-word3 .ensures
-    ∙ ap (λ t. sets t (c .before .before .before .before .before .before .before .before .before .before .before .before .before .before .args .code) (wordBytes (c .before .before .before .before .before .before .before .before .before .before .before .before .before .before .args .word)))
-    (c .before .before .before .before .before .before .before .put-word2 .ensures
-    ∙ ap (λ t. sets t (c .before .before .before .before .before .before .before .before .before .before .before .before .before .before .args .old + 4) (wordBytes (c .before .before .before .before .before .before .before .before .before .before .before .before .before .before .args .psw .right))) (c .before .before .before .before .before .before .before .before .before .before .before .put-word .ensures)
-    ∙ two-words (c .before .before .before .before .before .before .before .before .before .before .before .before .before .before .args .storage .now) (c .before .before .before .before .before .before .before .before .before .before .before .before .before .before .args .old) (wordBytes (c .before .before .before .before .before .before .before .before .before .before .before .before .before .before .args .psw .left)) (wordBytes (c .before .before .before .before .before .before .before .before .before .before .before .before .before .before .args .psw .right)) refl))
+    ∙ ap (λ t. sets t (back14 .args .code) (wordBytes (back14 .args .word)))
+    (back7 .put-word2 .ensures
+    ∙ ap (λ t. sets t (back14 .args .old + 4) (wordBytes (back14 .args .psw .right))) (back11 .put-word .ensures)
+    ∙ two-words (back14 .args .storage .now) (back14 .args .old) (wordBytes (back14 .args .psw .left)) (wordBytes (back14 .args .psw .right)) refl))
 
 pub put-areas-spec : {M : Type 1} → statement M
 put-areas-spec =
