@@ -25,7 +25,8 @@ use Rattle.execute.specs.declared.Done.{Done}
 use Rattle.execute.specs.declared.Event.{Event}
 use Rattle.execute.specs.declared.Event.the-variants as event
 use Rattle.execute.specs.declared.Frames.{Frames}
-use Rattle.execute.specs.After.{eventOf, cpuAfter, storageAfter, keysAfter, Completes, leftBy, markText, Standing, Left, codeBytes, Before, areasOf}
+use Rattle.execute.specs.declared.Interruption.{Interruption}
+use Rattle.execute.specs.After.{eventOf, cpuAfter, storageAfter, keysAfter, Completes, leftBy, markText, Standing, Left, codeBytes, Before, areasOf, fieldsOf, InPrefixPage}
 use Rattle.execute.proofs.Areas.{interrupt-failed, interrupt-protected, interrupt-open}
 
 -- with no register set, the state before the unit is left
@@ -65,15 +66,15 @@ fields-some word address false = omega arith
 
 -- an interruption by the host page behind its areas
 module _ (h : Host) (x : Progress) {g : Guest} {clock : ℕ} {c : Cpu} {text : Text} {t : Frames} (standing : Standing h x g clock c text t)
-    (to : Cpu) (old code new word address : ℕ) (long : Bool) (oldFits : old + 8 ≤ 4096) (codeFits : code + 8 ≤ 4096) (newFits : new + 8 ≤ 4096) where
+    (to : Cpu) (i : Interruption) (fits : InPrefixPage i) where
   viewed : x .view ≡ view (x .guest) h
   viewed = standing .ofView ∙ ap (λ k. view k h) (sym (standing .ofGuest))
 
-  behind : {w : Walk} → backing g h (g .prefix * 4096 + old) ≡ w → backing (x .guest) h (x .guest .prefix * 4096 + old) ≡ w
-  behind e = ap (λ k. backing k h (k .prefix * 4096 + old)) (standing .ofGuest) ∙ e
+  behind : {w : Walk} → backing g h (g .prefix * 4096 + i .old) ≡ w → backing (x .guest) h (x .guest .prefix * 4096 + i .old) ≡ w
+  behind e = ap (λ k. backing k h (k .prefix * 4096 + i .old)) (standing .ofGuest) ∙ e
 
-  pub interrupted-failed : (f : Failure) (d : Done) {storage keys : List ℕ} → backing g h (g .prefix * 4096 + old) ≡ Failed f → d .event ≡ event.Faulted f → leftBy c d ≡ c
-      → h .storage ≡ storage → h .keys ≡ keys → Left h g c (interrupt x to (areasOf old code new) (codeBytes word address long)) d storage keys
+  pub interrupted-failed : (f : Failure) (d : Done) {storage keys : List ℕ} → backing g h (g .prefix * 4096 + i .old) ≡ Failed f → d .event ≡ event.Faulted f → leftBy c d ≡ c
+      → h .storage ≡ storage → h .keys ≡ keys → Left h g c (interrupt x to (areasOf i) (fieldsOf i)) d storage keys
   interrupted-failed f d {storage = storage} {keys = keys} failed ended kept bytes marks =
       subst
       (λ o. Left h g c o d storage keys)
@@ -83,19 +84,19 @@ module _ (h : Host) (x : Progress) {g : Guest} {clock : ℕ} {c : Cpu} {text : T
       x
       viewed
       to
-      (areasOf old code new)
-      (codeBytes word address long)
-      oldFits
-      (fields-fit word address code long codeFits)
-      newFits
-      (fields-some word address long)
+      (areasOf i)
+      (fieldsOf i)
+      (fits .0)
+      (fields-fit (i .word) (i .address) (i .code) (i .long) (fits .1))
+      (fits .2)
+      (fields-some (i .word) (i .address) (i .long))
       f
       (behind failed)))
       (left-faulted h g c f d ended kept bytes marks)
 
-  pub interrupted-protected : (frame : ℕ) (d : Done) {storage keys : List ℕ} → backing g h (g .prefix * 4096 + old) ≡ Page frame true
-      → d .event ≡ event.Faulted (hostFault (hostVirtual g (g .prefix * 4096 + old)) protection) → leftBy c d ≡ c → h .storage ≡ storage → h .keys ≡ keys
-      → Left h g c (interrupt x to (areasOf old code new) (codeBytes word address long)) d storage keys
+  pub interrupted-protected : (frame : ℕ) (d : Done) {storage keys : List ℕ} → backing g h (g .prefix * 4096 + i .old) ≡ Page frame true
+      → d .event ≡ event.Faulted (hostFault (hostVirtual g (g .prefix * 4096 + i .old)) protection) → leftBy c d ≡ c → h .storage ≡ storage → h .keys ≡ keys
+      → Left h g c (interrupt x to (areasOf i) (fieldsOf i)) d storage keys
   interrupted-protected frame d {storage = storage} {keys = keys} backed ended kept bytes marks =
       subst
       (λ o. Left h g c o d storage keys)
@@ -105,22 +106,22 @@ module _ (h : Host) (x : Progress) {g : Guest} {clock : ℕ} {c : Cpu} {text : T
       x
       viewed
       to
-      (areasOf old code new)
-      (codeBytes word address long)
-      oldFits
-      (fields-fit word address code long codeFits)
-      newFits
-      (fields-some word address long)
+      (areasOf i)
+      (fieldsOf i)
+      (fits .0)
+      (fields-fit (i .word) (i .address) (i .code) (i .long) (fits .1))
+      (fits .2)
+      (fields-some (i .word) (i .address) (i .long))
       frame
       (behind backed)
-      ∙ ap (λ k. faulted (hostFault (hostVirtual k (k .prefix * 4096 + old)) protection)) (standing .ofGuest)))
-      (left-faulted h g c (hostFault (hostVirtual g (g .prefix * 4096 + old)) protection) d ended kept bytes marks)
+      ∙ ap (λ k. faulted (hostFault (hostVirtual k (k .prefix * 4096 + i .old)) protection)) (standing .ofGuest)))
+      (left-faulted h g c (hostFault (hostVirtual g (g .prefix * 4096 + i .old)) protection) d ended kept bytes marks)
 
-  pub interrupted-open : (frame : ℕ) (d : Done) {storage keys : List ℕ} → backing g h (g .prefix * 4096 + old) ≡ Page frame false → d .event ≡ event.Completed
-      → leftBy c d ≡ withPsw to (pswOf (h .storage) (frame * 4096 + new))
-      → storage ≡ sets (sets (h .storage) (frame * 4096 + old) (pswBytes (to .psw))) (frame * 4096 + code) (codeBytes word address long)
+  pub interrupted-open : (frame : ℕ) (d : Done) {storage keys : List ℕ} → backing g h (g .prefix * 4096 + i .old) ≡ Page frame false → d .event ≡ event.Completed
+      → leftBy c d ≡ withPsw to (pswOf (h .storage) (frame * 4096 + i .new))
+      → storage ≡ sets (sets (h .storage) (frame * 4096 + i .old) (pswBytes (to .psw))) (frame * 4096 + i .code) (fieldsOf i)
       → keys ≡ markFrame changed frame (markFrame referenced frame (markText t (h .keys)))
-      → Left h g c (interrupt x to (areasOf old code new) (codeBytes word address long)) d storage keys
+      → Left h g c (interrupt x to (areasOf i) (fieldsOf i)) d storage keys
   interrupted-open frame d backed ended left bytes marks =
       left-completed
       h
@@ -132,9 +133,9 @@ module _ (h : Host) (x : Progress) {g : Guest} {clock : ℕ} {c : Cpu} {text : T
       (λ k.
       Completes
       (backing k h)
-      (interrupt x to (areasOf old code new) (codeBytes word address long))
-      (withPsw to (pswOf (h .storage) (frame * 4096 + new)))
-      (λ l. sets (sets l (frame * 4096 + old) (pswBytes (to .psw))) (frame * 4096 + code) (codeBytes word address long))
+      (interrupt x to (areasOf i) (fieldsOf i))
+      (withPsw to (pswOf (h .storage) (frame * 4096 + i .new)))
+      (λ l. sets (sets l (frame * 4096 + i .old) (pswBytes (to .psw))) (frame * 4096 + i .code) (fieldsOf i))
       (λ l. markFrame changed frame (markFrame referenced frame (marked (backing k h) referenced (x .fetched) l))))
       (standing .ofGuest)
       (interrupt-open
@@ -142,12 +143,12 @@ module _ (h : Host) (x : Progress) {g : Guest} {clock : ℕ} {c : Cpu} {text : T
       x
       viewed
       to
-      (areasOf old code new)
-      (codeBytes word address long)
-      oldFits
-      (fields-fit word address code long codeFits)
-      newFits
-      (fields-some word address long)
+      (areasOf i)
+      (fieldsOf i)
+      (fits .0)
+      (fields-fit (i .word) (i .address) (i .code) (i .long) (fits .1))
+      (fits .2)
+      (fields-some (i .word) (i .address) (i .long))
       frame
       (behind backed)))
       ended

@@ -1,5 +1,5 @@
 -- An outcome put into effect: how the unit ended, and the state, the storage and the keys that it leaves.
-use Prim.Native.Nat.{ℕ, _<_}
+use Prim.Native.Nat.{ℕ, _+_, _≤_, _<_}
 use mathlib.Core.Path.{_≡_}
 use mathlib.Core.Bool.{Bool, cond}
 use mathlib.Core.List.{List, [], _++_}
@@ -20,6 +20,7 @@ use Rattle.execute.specs.declared.Done.{Done}
 use Rattle.execute.specs.declared.Event.{Event}
 use Rattle.execute.specs.declared.Event.the-variants as event
 use Rattle.execute.specs.declared.Frames.{Frames}
+use Rattle.execute.specs.declared.Interruption.{Interruption}
 
 unfoldable pub eventOf : Outcome → Event
 eventOf (completed c e) = event.Completed
@@ -89,7 +90,7 @@ pub record Left (h : Host) (g : Guest) (c : Cpu) (o : Outcome) (d : Done) (stora
   pub bytes : storage ≡ storageAfter (backing g h) o (h .storage)
   pub marks : keys ≡ keysAfter (backing g h) o (h .keys)
 
--- the code fields of an interruption: a word, and an address behind it where it is long
+-- a word, and an address behind it where it is long
 abbrev pub codeBytes : ℕ → ℕ → Bool → List ℕ
 codeBytes word address long = wordBytes word ++ cond long (wordBytes address) []
 
@@ -100,6 +101,14 @@ pub record Before (c : Cpu) (psw : Psw) (after : Done) : Type 0 where
   pub ofControl : c .control ≡ after .control
   pub sixteen : length (c .general .words) ≡ 16
 
--- the areas of an interruption class
-abbrev pub areasOf : ℕ → ℕ → ℕ → Areas
-areasOf old code new = record { old = old; code = code; new = new }
+-- the areas of an interruption
+abbrev pub areasOf : Interruption → Areas
+areasOf i = record { old = i .old; code = i .code; new = i .new }
+
+-- the code fields of an interruption: a word, and an address behind it where it is long
+abbrev pub fieldsOf : Interruption → List ℕ
+fieldsOf i = codeBytes (i .word) (i .address) (i .long)
+
+-- the areas stand in the prefix page
+abbrev pub InPrefixPage : Interruption → Type 0
+InPrefixPage i = (i .old + 8 ≤ 4096) × (i .code + 8 ≤ 4096) × (i .new + 8 ≤ 4096)

@@ -5,18 +5,19 @@ ghost use mathlib.Core.Bool.{_&&_};
 ghost use lib.Dec.{eqb};
 ghost use lib.ListN.{length};
 ghost use lib.Seq.{sets};
-ghost use Rattle.machine.specs.Record.{pswBytes};
+ghost use Rattle.machine.specs.Record.{pswOf, pswBytes};
 ghost use Rattle.machine.specs.declared.Cpu.{Cpu};
 ghost use Rattle.machine.specs.Psw.{withPsw};
 ghost use Rattle.machine.specs.Words.{bit};
 ghost use Rattle.machine.specs.Refusals.{framesOf};
 ghost use Rattle.machine.specs.Failures.{operation, isTranslation};
-ghost use Rattle.machine.specs.Host.{Host, host, backing};
+ghost use Rattle.machine.specs.Host.{Host, host, backing, referenced, changed};
 ghost use Rattle.machine.specs.Outcomes.{Progress};
 ghost use Rattle.machine.specs.Interruptions.{interrupt, afterException, exception};
 ghost use Rattle.storage.specs.Entered.{Entered};
 ghost use Rattle.address.specs.Touching.{Inside, Backed};
-ghost use Rattle.execute.specs.After.{endedWith, WithKeys, markText, leftBy, Before, Standing, Left, areasOf, codeBytes};
+ghost use Rattle.address.specs.Operands.{markFrame};
+ghost use Rattle.execute.specs.After.{endedWith, WithKeys, markText, leftBy, Before, Standing, Left, areasOf, codeBytes, fieldsOf, InPrefixPage};
 use machine::Failure;
 use machine::Guest;
 use machine::Psw;
@@ -47,6 +48,17 @@ pub struct Frames {
     pub count: u32,
     pub first: u32,
     pub second: u32,
+}
+
+// An interruption: the real addresses of the old PSW, of the code fields and of the new PSW; the code's word; and an address,
+// which is stored behind it where long says so.
+pub struct Interruption {
+    pub old: u32,
+    pub code: u32,
+    pub new: u32,
+    pub word: u32,
+    pub address: u32,
+    pub long: bool,
 }
 
 const OPERATION: u32 = 1;
@@ -127,6 +139,40 @@ fn put_areas(
     }
 }
 
+// An interruption whose areas stand in a frame that may be stored into.
+fn interrupt_open(
+    storage: &mut [u8],
+    keys: &mut [u8],
+    after: Done,
+    i: Interruption,
+    t: Frames,
+    frame: u32,
+) -> Done
+    requires { ⌜ WithKeys (now keys) t × (frame < length (now keys)) ⌝ }
+    requires { ⌜ InPrefixPage i × (frame * 4096 + 4096 ≤ length (now storage)) × (frame < 524288) ⌝ }
+    ensures { λ r. ⌜ (r .event ≡ Event.Completed) × ((c : Cpu) → leftBy c r ≡ withPsw (leftBy c after) (pswOf (now (storage .entry)) (frame * 4096 + i .new))) ⌝ }
+    ensures { λ _. ⌜ now (storage .exit) ≡ sets (sets (now (storage .entry)) (frame * 4096 + i .old) (pswBytes (after .psw))) (frame * 4096 + i .code) (fieldsOf i) ⌝ }
+    ensures { λ _. ⌜ now (keys .exit) ≡ markFrame changed frame (markFrame referenced frame (markText t (now (keys .entry)))) ⌝ }
+{
+    let base = frame as usize * 4096;
+    let left = words::word_at(storage, base + i.new as usize);
+    let right = words::word_at(storage, base + i.new as usize + 4);
+    let psw = after.psw;
+    put_areas(
+        storage,
+        base + i.old as usize,
+        psw,
+        base + i.code as usize,
+        i.word,
+        i.address,
+        i.long,
+    );
+    mark_text(keys, t);
+    writer::mark_fetched(keys, frame);
+    writer::mark_stored(keys, frame);
+    ended_with(Event::Completed, after, Psw { left, right })
+}
+
 // An interruption, by the host page behind its areas. The PSW of `after` becomes the old one; `start` is the unit's own.
 fn interrupt_at(
     storage: &mut [u8],
@@ -134,53 +180,28 @@ fn interrupt_at(
     guest: Guest,
     start: Psw,
     after: Done,
-    old: u32,
-    code: u32,
-    new: u32,
-    word: u32,
-    address: u32,
-    long: bool,
+    i: Interruption,
     t: Frames,
     w: Walk,
 ) -> Done
-    requires { ⌜ Entered guest × WithKeys (now keys) t ⌝ }
-    requires { ⌜ Inside (now storage) w × Backed guest (now keys) (guest .prefix * 4096 + old) w ⌝ }
-    requires { ⌜ (old + 8 ≤ 4096) × (code + 8 ≤ 4096) × (new + 8 ≤ 4096) ⌝ }
+    requires { ⌜ Entered guest × WithKeys (now keys) t × InPrefixPage i ⌝ }
+    requires { ⌜ Inside (now storage) w × Backed guest (now keys) (guest .prefix * 4096 + i .old) w ⌝ }
     ensures { λ r. ⌜ ((h : Host) (x : Progress) (clock : ℕ) (c : Cpu) (text : Text) → h .storage ≡ now (storage .entry) → h .keys ≡ now (keys .entry)
-        → w ≡ backing guest h (guest .prefix * 4096 + old) → Standing h x guest clock c text t → Before c start after
-        → Left h guest c (interrupt x (leftBy c after) (areasOf old code new) (codeBytes word address long)) r (now (storage .exit)) (now (keys .exit))) ⌝ }
+        → w ≡ backing guest h (guest .prefix * 4096 + i .old) → Standing h x guest clock c text t → Before c start after
+        → Left h guest c (interrupt x (leftBy c after) (areasOf i) (fieldsOf i)) r (now (storage .exit)) (now (keys .exit))) ⌝ }
 {
     match w {
         Walk::Failed(f) => faulted(start, after, f),
         Walk::Page { frame, protected } => {
             if protected {
-                return faulted(
-                    start,
-                    after,
-                    Failure {
-                        host: true,
-                        code: PROTECTION,
-                        address: guest.origin as u32 * 65536 + (guest.prefix * 4096 + old),
-                    },
-                );
+                let f = Failure {
+                    host: true,
+                    code: PROTECTION,
+                    address: guest.origin as u32 * 65536 + (guest.prefix * 4096 + i.old),
+                };
+                return faulted(start, after, f);
             }
-            let base = frame as usize * 4096;
-            let left = words::word_at(storage, base + new as usize);
-            let right = words::word_at(storage, base + new as usize + 4);
-            let psw = after.psw;
-            put_areas(
-                storage,
-                base + old as usize,
-                psw,
-                base + code as usize,
-                word,
-                address,
-                long,
-            );
-            mark_text(keys, t);
-            writer::mark_fetched(keys, frame);
-            writer::mark_stored(keys, frame);
-            ended_with(Event::Completed, after, Psw { left, right })
+            interrupt_open(storage, keys, after, i, t, frame)
         }
     }
 }
@@ -193,39 +214,19 @@ pub fn interrupt(
     guest: Guest,
     start: Psw,
     after: Done,
-    old: u32,
-    code: u32,
-    new: u32,
-    word: u32,
-    address: u32,
-    long: bool,
+    i: Interruption,
     t: Frames,
 ) -> Done
-    requires { ⌜ Entered guest × WithKeys (now keys) t × (framesOf (now storage) ≤ length (now keys)) ⌝ }
-    requires { ⌜ (old + 8 ≤ 4096) × (code + 8 ≤ 4096) × (new + 8 ≤ 4096) ⌝ }
+    requires { ⌜ Entered guest × WithKeys (now keys) t × (framesOf (now storage) ≤ length (now keys)) × InPrefixPage i ⌝ }
     ensures { λ r. ⌜ ((x : Progress) (clock : ℕ) (c : Cpu) (text : Text)
         → Standing (host designation (now (storage .entry)) (now (keys .entry))) x guest clock c text t → Before c start after
-        → Left (host designation (now (storage .entry)) (now (keys .entry))) guest c
-        (interrupt x (leftBy c after) (areasOf old code new) (codeBytes word address long)) r (now (storage .exit)) (now (keys .exit))) ⌝ }
+        → Left (host designation (now (storage .entry)) (now (keys .entry))) guest c (interrupt x (leftBy c after) (areasOf i) (fieldsOf i)) r
+        (now (storage .exit)) (now (keys .exit))) ⌝ }
 {
-    let absolute = guest.prefix * 4096 + old;
+    let absolute = guest.prefix * 4096 + i.old;
     let behind = storage::behind(storage, designation, guest.origin, guest.extent, absolute);
     let page = storage::unpacked(guest.origin, absolute, behind);
-    interrupt_at(
-        storage,
-        keys,
-        guest,
-        start,
-        after,
-        old,
-        code,
-        new,
-        word,
-        address,
-        long,
-        t,
-        page,
-    )
+    interrupt_at(storage, keys, guest, start, after, i, t, page)
 }
 
 // A segment or page translation exception.
@@ -296,22 +297,14 @@ pub fn exception(
         };
         return ended_with(Event::Intercepted(reason), after, psw);
     }
-    let word = text.ilc as u32 * 131072 + f.code;
-    let long = translation(f.code);
+    let i = Interruption {
+        old: 40,
+        code: 140,
+        new: 104,
+        word: text.ilc as u32 * 131072 + f.code,
+        address: f.address,
+        long: translation(f.code),
+    };
     let done = ended_with(Event::Completed, after, psw);
-    interrupt(
-        storage,
-        keys,
-        designation,
-        guest,
-        start,
-        done,
-        40,
-        140,
-        104,
-        word,
-        f.address,
-        long,
-        t,
-    )
+    interrupt(storage, keys, designation, guest, start, done, i, t)
 }

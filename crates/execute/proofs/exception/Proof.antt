@@ -1,5 +1,6 @@
 -- `execute::exception` meets its contract.
 -- Assumes nothing.
+use native.Mathlib.Omega.{arith}
 use mathlib.Core.Path.{refl, ap, sym, subst, _∙_}
 use borrow.Author.Tests.{eq-eqb, ne-eqb}
 use borrow.Author.Needs.{needs}
@@ -15,10 +16,11 @@ faulted-requires c κs = search needs
 
 returns : tie.Need-returns
 returns c =
-    let a = c .before .before .before .before .args in
+    let back4 = c .before .before .before .before in
+    let a = back4 .args in
     λ x clock k standing before.
-    excepted-host (host (c .before .before .before .before .args .designation) _ _) x standing (leftBy k (a .after)) (a .f)
-    (c .before .if1 .taken) (c .faulted .result) (c .faulted .ensures .0) (c .faulted .ensures .1 k before)
+    excepted-host (host (a .designation) _ _) x standing (leftBy k (a .after)) (a .f) (c .before .if1 .taken)
+    (c .faulted .result) (c .faulted .ensures .0) (c .faulted .ensures .1 k before)
 
 after-exception-requires : tie.Need-after-exception-requires
 after-exception-requires c κs = search needs
@@ -36,14 +38,13 @@ returns-2 c =
     let back7 = back4 .before .before .before in
     let a = back7 .args in
     λ x clock k standing before.
-    excepted-operation (host (back7 .args .designation) _ _) x standing
-    (leftBy k (a .after)) (a .f) (back4 .if1 .left)
+    excepted-operation (host (a .designation) _ _) x standing (leftBy k (a .after)) (a .f) (back4 .if1 .left)
     (sym (c .before .before .intercepts-operation .ensures) ∙ c .before .if2 .taken) (c .ended-with .result)
     (ap (λ d. d .event) (c .ended-with .ensures))
     (ap (leftBy k) (c .ended-with .ensures) ∙ c .before .before .before .after-exception .ensures x (leftBy k (a .after)) (a .f) (ap (λ t. t .ilc) (standing .ofText)) refl refl)
 
-cast-t21 : tie.Need-cast-t21
-cast-t21 c = search needs
+cast-t20 : tie.Need-cast-t20
+cast-t20 c = search needs
 
 ended-with-requires-2 : tie.Need-ended-with-requires-2
 ended-with-requires-2 c κs = search needs
@@ -58,21 +59,19 @@ returns-3 c =
     let back10 = back7 .before .before .before in
     let a = back10 .args in
     λ x clock k standing before.
-    excepted-program
-    (host (back10 .args .designation) _ _) x standing
-    (leftBy k (a .after)) (a .f) (back7 .if1 .left)
-    (sym (back5 .intercepts-operation .ensures) ∙ back4 .if2 .left)
-    (eq-eqb _ 1 (c .before .before .if3 .taken)) (c .ended-with2 .result) (ap (λ d. d .event) (c .ended-with2 .ensures))
+    excepted-program (host (a .designation) _ _) x standing (leftBy k (a .after)) (a .f) (back7 .if1 .left)
+    (sym (back5 .intercepts-operation .ensures) ∙ back4 .if2 .left) (eq-eqb _ 1 (c .before .before .if3 .taken))
+    (c .ended-with2 .result) (ap (λ d. d .event) (c .ended-with2 .ensures))
     (ap (leftBy k) (c .ended-with2 .ensures) ∙ back6 .after-exception .ensures x (leftBy k (a .after)) (a .f) (ap (λ t. t .ilc) (standing .ofText)) refl refl)
 
-cast-word : tie.Need-cast-word
-cast-word c = search needs
+cast-t22 : tie.Need-cast-t22
+cast-t22 c = search needs
 
-mul-word : tie.Need-mul-word
-mul-word c = search needs
+mul-t23 : tie.Need-mul-t23
+mul-t23 c = search needs
 
-add-word : tie.Need-add-word
-add-word c = search needs
+add-t24 : tie.Need-add-t24
+add-t24 c = search needs
 
 translation-requires : tie.Need-translation-requires
 translation-requires c κs = search needs
@@ -81,7 +80,9 @@ ended-with-requires-3 : tie.Need-ended-with-requires-3
 ended-with-requires-3 c κs = search needs
 
 interrupt-requires : tie.Need-interrupt-requires
-interrupt-requires c κs = search needs
+interrupt-requires c κs =
+    let pre = c .before .before .before .before .before .before .before .before .before .before .before .before .before .before .pre in
+    (pre .0 .0, pre .0 .1, pre .0 .2, (omega arith, omega arith, omega arith))
 
 same-length : tie.Need-same-length
 same-length c = search needs
@@ -103,16 +104,9 @@ returns-4 c =
     let back19 = back16 .before .before .before in
     let a = back19 .args in
     λ x clock k standing before.
-    excepted-interruption
-    (host (back19 .args .designation) _ _)
-    x standing (leftBy k (a .after)) (a .f)
-    (back16 .if1 .left)
-    (sym (back14 .intercepts-operation .ensures) ∙ back13 .if2 .left)
-    (ne-eqb _ 1 (back11 .if3 .left))
-    (back19 .pre .1 .0)
-    (back19 .pre .1 .1)
-    (back4 .interrupt .result)
-    (leftBy k (back7 .ended-with3 .result))
+    excepted-interruption (host (a .designation) _ _) x standing (leftBy k (a .after)) (a .f) (back16 .if1 .left)
+    (sym (back14 .intercepts-operation .ensures) ∙ back13 .if2 .left) (ne-eqb _ 1 (back11 .if3 .left)) (back19 .pre .1 .0)
+    (back19 .pre .1 .1) (back4 .interrupt .result) (leftBy k (back7 .ended-with3 .result))
     (ap (leftBy k) (back7 .ended-with3 .ensures) ∙ back15 .after-exception .ensures x (leftBy k (a .after)) (a .f) (ap (λ t. t .ilc) (standing .ofText)) refl refl)
     (back8 .translation .ensures)
     (back4 .interrupt .ensures x clock k (a .text) standing (subst (Before k (a .start)) (sym (back7 .ended-with3 .ensures)) (record { ofPsw = before .ofPsw; ofTimer = before .ofTimer; ofControl = before .ofControl; sixteen = before .sixteen })))
@@ -127,12 +121,12 @@ exception-spec =
     intercepts-operation-requires
     ended-with-requires
     returns-2
-    cast-t21
+    cast-t20
     ended-with-requires-2
     returns-3
-    cast-word
-    mul-word
-    add-word
+    cast-t22
+    mul-t23
+    add-t24
     translation-requires
     ended-with-requires-3
     interrupt-requires

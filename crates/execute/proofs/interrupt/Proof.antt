@@ -22,10 +22,10 @@ unpacked-requires c κs = search needs
 
 interrupt-at-requires : tie.Need-interrupt-at-requires
 interrupt-at-requires c κs =
-    let back8 = c .before .before .before .before .before .before .before .before in
-    let pre = back8 .pre in
-    rw (c .before .before .unpacked .ensures (back8 .args .guest) refl, c .before .before .before .behind .ensures (back8 .args .guest) refl refl, unpacked-backing _ _ _ _ (pre .0 .0))
-    ((pre .0 .0, pre .0 .1), ((inside-backing _ _ _ _, backed-backing _ _ _ _ _ (pre .0 .2)), pre .1))
+    let pre = c .before .before .before .before .before .before .before .before .before .pre in
+    let g = c .before .before .before .before .before .before .before .before .before .args .guest in
+    rw (c .before .before .unpacked .ensures g refl, c .before .before .before .behind .ensures g refl refl, unpacked-backing _ _ _ _ (pre .0))
+    ((pre .0, pre .1, pre .3), (inside-backing _ _ _ _, backed-backing _ _ _ _ _ (pre .2)))
 
 same-length : tie.Need-same-length
 same-length c = search needs
@@ -39,11 +39,12 @@ returns c =
     let back4 = c .before .before .before .before in
     let back7 = back4 .before .before .before in
     let back8 = back7 .before in
-    let back13 = back8 .before .before .before .before .before in
-    let pre = back13 .pre in
+    let back14 = back8 .before .before .before .before .before .before in
+    let a = back14 .args in
+    let entered = back14 .pre .0 in
     λ x clock k text standing before.
-    back4 .interrupt-at .ensures (host (back13 .args .designation) _ _) x clock k text refl refl
-    (rw (back7 .unpacked .ensures (back13 .args .guest) refl, back8 .behind .ensures (back13 .args .guest) refl refl) (unpacked-backing _ _ _ _ (pre .0 .0)))
+    back4 .interrupt-at .ensures (host (a .designation) _ _) x clock k text refl refl
+    (rw (back7 .unpacked .ensures (a .guest) refl, back8 .behind .ensures (a .guest) refl refl) (unpacked-backing _ _ _ _ entered))
     standing before
 
 pub interrupt-spec : {M : Type 1} → statement M
