@@ -23,7 +23,14 @@ static uint32_t half(const uint8_t *p)
 
 static uint32_t word(const uint8_t *p)
 {
+#ifdef BYTE_LOADS /* four loads, not joined into one: what a language without wider loads has to do */
+    const volatile uint8_t *v = p;
+    uint32_t a = v[0], b = v[1], c = v[2], d = v[3];
+
+    return a << 24 | b << 16 | c << 8 | d;
+#else
     return (uint32_t)p[0] << 24 | (uint32_t)p[1] << 16 | (uint32_t)p[2] << 8 | p[3];
+#endif
 }
 
 static uint64_t answer(uint64_t kind, uint64_t number)

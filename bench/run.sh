@@ -1,5 +1,6 @@
 #!/bin/sh
-# Builds the benchmark and runs it. LIB names another library, seen from this directory; CC another compiler.
+# Builds the benchmark and runs it. LIB names another library, seen from this directory; CC another compiler; FLAGS more of its
+# flags, as -DBYTE_LOADS, with which the plain implementation reads its words byte by byte.
 set -eu
 cd "$(dirname "$0")"
 CC=${CC:-gcc}
@@ -11,5 +12,5 @@ if [ ! -f "$LIB" ]; then
     exit 1
 fi
 mkdir -p "$OUT"
-"$CC" -std=c99 -Wall -Wextra -Werror -pedantic -O2 -o "$OUT/bench_translate" bench_translate.c plain.c "$LIB"
+"$CC" -std=c99 -Wall -Wextra -Werror -pedantic -O2 ${FLAGS:-} -o "$OUT/bench_translate" bench_translate.c plain.c "$LIB"
 exec "$OUT/bench_translate"
