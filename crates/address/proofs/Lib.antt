@@ -1,3 +1,4 @@
 pub mod Touches
 pub mod Operands
 pub mod Seen
+pub mod Reached

@@ -1,1 +1,2 @@
 pub mod Lctl
+pub mod Wrap

@@ -226,7 +226,7 @@ pub fn address_part(general: Registers, i: u32) -> u32
 
 // The operand's address D2(B2), cut once at the end.
 pub fn operand_address(psw: Psw, general: Registers, text: Text) -> u32
-    ensures { λ r. ⌜ ((x : Progress) → x .cpu .psw ≡ psw → x .cpu .general ≡ general → x .text ≡ text → r ≡ operandAddress x) ⌝ }
+    ensures { λ r. ⌜ ((c : Cpu) → c .psw ≡ psw → wrap c r ≡ r) × ((x : Progress) → x .cpu .psw ≡ psw → x .cpu .general ≡ general → x .text ≡ text → r ≡ operandAddress x) ⌝ }
 {
     let second = text.second as u32;
     let base = address_part(general, second / 4096 % 16);
@@ -235,7 +235,7 @@ pub fn operand_address(psw: Psw, general: Registers, text: Text) -> u32
 
 // The operand's address D2(X2,B2), cut once at the end.
 pub fn indexed_address(psw: Psw, general: Registers, text: Text) -> u32
-    ensures { λ r. ⌜ ((x : Progress) → x .cpu .psw ≡ psw → x .cpu .general ≡ general → x .text ≡ text → r ≡ indexedAddress x) ⌝ }
+    ensures { λ r. ⌜ ((c : Cpu) → c .psw ≡ psw → wrap c r ≡ r) × ((x : Progress) → x .cpu .psw ≡ psw → x .cpu .general ≡ general → x .text ≡ text → r ≡ indexedAddress x) ⌝ }
 {
     let first = text.first as u32;
     let second = text.second as u32;

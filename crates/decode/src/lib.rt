@@ -2,7 +2,7 @@
 // nothing else.
 ghost use mathlib.Core.Path.{_≡_};
 ghost use mathlib.Core.List.{map};
-ghost use Prim.Native.Nat.{_<_};
+ghost use Prim.Native.Nat.{_≤_, _<_};
 ghost use Rattle.machine.specs.Opcodes.{lengthOf, numberOf, opcodeOf, opcodes};
 ghost use Rattle.decode.specs.Packing.{codeOf, packed};
 use machine::Class;
@@ -61,8 +61,8 @@ fn number_of(first: u32) -> u32
 }
 
 // The length in halfwords, by the two leftmost bits.
-fn length_of(first: u32) -> u8
-    ensures { λ r. ⌜ r ≡ lengthOf first ⌝ }
+pub fn length_of(first: u32) -> u8
+    ensures { λ r. ⌜ (r ≡ lengthOf first) × (1 ≤ r) × (r ≤ 3) ⌝ }
 {
     if first / 16384 % 4 == 0 {
         return 1;

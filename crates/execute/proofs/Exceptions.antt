@@ -25,7 +25,7 @@ use Rattle.execute.specs.declared.Frames.{Frames}
 use Rattle.execute.specs.After.{eventOf, cpuAfter, storageAfter, keysAfter, leftBy, Standing, Left, codeBytes}
 use Rattle.execute.proofs.Leaving.{left-faulted}
 
-code-word : (ilc code : ℕ) → ilc ≤ 3 → code < 65536 → wordBytes (ilc * 131072 + code) ≡ codeFields ilc code
+pub code-word : (ilc code : ℕ) → ilc ≤ 3 → code < 65536 → wordBytes (ilc * 131072 + code) ≡ codeFields ilc code
 code-word ilc code short small =
     let first : (ilc * 131072 + code) / 65536 / 256 % 256 ≡ 0 = omega arith in
     let second : (ilc * 131072 + code) / 65536 % 256 ≡ ilc * 2 = omega arith in
@@ -36,7 +36,7 @@ code-word ilc code short small =
 taken : {b : Bool} (o p : Outcome) → b ≡ true → cond b o p ≡ o
 taken o p e = ap (λ b. cond b o p) e
 
-left-intercepted : (h : Host) (g : Guest) (c : Cpu) (r : Reason) (to : Cpu) (d : Done) → d .event ≡ event.Intercepted r → leftBy c d ≡ to
+pub left-intercepted : (h : Host) (g : Guest) (c : Cpu) (r : Reason) (to : Cpu) (d : Done) → d .event ≡ event.Intercepted r → leftBy c d ≡ to
     → Left h g c (intercepted r to) d (h .storage) (h .keys)
 unfolding eventOf cpuAfter storageAfter keysAfter
 left-intercepted h g c r to d ended left = record { event = ended; cpu = left; bytes = refl; marks = refl }
@@ -97,3 +97,10 @@ module _ (x : Progress) (k : Cpu) (f : Failure) {psw : Psw} where
       → withPsw k psw ≡ afterException x k f
   unfolding withPsw afterException advanced withAddress
   past-the-instruction goes moved = ap (withPsw k) moved ∙ sym (ap (λ b. cond b k (advanced k (x .text .ilc))) goes)
+
+-- an exception of the state that the unit began with
+pub exception-of : (h : Host) (x : Progress) {g : Guest} {clock : ℕ} {c : Cpu} {text : Text} {t : Frames} → Standing h x g clock c text t
+    → (k : Cpu) → k ≡ c → (f : Failure) (d : Done) {storage keys : List ℕ} → Left h g c (exception x k f) d storage keys
+    → Left h g c (exception x (x .cpu) f) d storage keys
+exception-of h x {g} {clock} {c} standing k same f d {storage} {keys} left =
+    subst (λ k. Left h g c (exception x k f) d storage keys) (same ∙ sym (standing .ofCpu)) left

@@ -11,6 +11,7 @@ use Rattle.machine.specs.declared.Cpu.{Cpu}
 use Rattle.machine.specs.declared.Failure.{Failure}
 use Rattle.machine.specs.declared.Guest.{Guest}
 use Rattle.machine.specs.declared.Psw.{Psw}
+use Rattle.machine.specs.declared.Registers.{Registers}
 use Rattle.machine.specs.declared.Text.{Text}
 use Rattle.machine.specs.declared.Walk.{Walk}
 use Rattle.machine.specs.declared.Walk.the-variants.{Page, Failed}
@@ -40,13 +41,25 @@ unchanged c how before = λ i. record {
   general = record { words = set-out (c .general .words) 16 0 (omega arith) i };
 }
 
+-- with no register set, the general registers are as they were
+pub none-set : (c : Cpu) (how : Event) (psw : Psw) (timer : ℕ) (control : Registers) → length (c .general .words) ≡ 16
+    → leftBy c (record { event = how; psw = psw; timer = timer; control = control; register = 16; value = 0 })
+    ≡ record { psw = psw; timer = timer; control = control; general = c .general }
+unfolding leftBy
+none-set c how psw timer control sixteen = λ i. record {
+  psw = psw;
+  timer = timer;
+  control = control;
+  general = record { words = set-out (c .general .words) 16 0 (omega arith) i };
+}
+
 -- a host fault is left by the state before the unit, and storage and keys as they were
 pub left-faulted : (h : Host) (g : Guest) (c : Cpu) (f : Failure) (d : Done) {storage keys : List ℕ} → d .event ≡ event.Faulted f → leftBy c d ≡ c
     → h .storage ≡ storage → h .keys ≡ keys → Left h g c (faulted f) d storage keys
 unfolding eventOf cpuAfter storageAfter keysAfter
 left-faulted h g c f d ended kept bytes marks = record { event = ended; cpu = kept; bytes = sym bytes; marks = sym marks }
 
-left-completed : (h : Host) (g : Guest) (c : Cpu) (o : Outcome) (d : Done) {to : Cpu} {stores marks : List ℕ → List ℕ} {storage keys : List ℕ}
+pub left-completed : (h : Host) (g : Guest) (c : Cpu) (o : Outcome) (d : Done) {to : Cpu} {stores marks : List ℕ → List ℕ} {storage keys : List ℕ}
     → Completes (backing g h) o to stores marks → d .event ≡ event.Completed → leftBy c d ≡ to
     → storage ≡ stores (h .storage) → keys ≡ marks (h .keys) → Left h g c o d storage keys
 left-completed h g c o d all ended to bytes marks = record {

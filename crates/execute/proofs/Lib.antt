@@ -3,3 +3,4 @@ pub mod Areas
 pub mod Words
 pub mod Leaving
 pub mod Exceptions
+pub mod Reaching

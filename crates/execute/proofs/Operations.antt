@@ -30,6 +30,17 @@ places-withBytes [] bytes e = refl
 places-withBytes (l ∷ ls) [] e = absurd (omega arith)
 places-withBytes (l ∷ ls) (b ∷ bytes) e = ap (λ more. l .absolute ∷ more) (places-withBytes ls bytes (suc-inj e))
 
+-- an instruction that fetches and stores nothing but its text
+pub finish-completes : (h : Host) (x : Progress) (c : Cpu)
+    → Completes (backing (x .guest) h) (finish x c [] []) c (λ t. t) (λ k. marked (backing (x .guest) h) referenced (x .fetched) k)
+unfolding finish eventOf cpuAfter storageAfter keysAfter markedBy stored marked
+finish-completes h x c = record {
+  event = refl;
+  cpu = λ before. refl;
+  storage = λ t. refl;
+  keys = λ k. rw (append-nil, append-nil) refl;
+}
+
 module _ (h : Host) (x : Progress) (viewed : x .view ≡ view (x .guest) h) (a n : ℕ) (wrapped : wrap (x .cpu) a ≡ a) (some : 0 < n) (few : n ≤ 4096) where
   pub fetching-shut : (f : Failure) (after : List ℕ → Cpu) → operandOf (x .guest) h (x .cpu) false a n ≡ Shut f
       → fetching x a n after ≡ exception x (x .cpu) f

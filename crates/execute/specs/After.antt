@@ -8,6 +8,7 @@ use lib.ListN.{length, set}
 use Rattle.machine.specs.declared.Cpu.{Cpu}
 use Rattle.machine.specs.declared.Guest.{Guest}
 use Rattle.machine.specs.declared.Psw.{Psw}
+use Rattle.machine.specs.declared.Registers.{Registers}
 use Rattle.machine.specs.declared.Text.{Text}
 use Rattle.machine.specs.declared.Walk.{Walk}
 use Rattle.machine.specs.Words.{wordBytes}
@@ -59,14 +60,18 @@ leftBy c d = record {
   general = record { words = set (c .general .words) (d .register) (d .value) };
 }
 
+-- with these control registers
+abbrev pub withRegisters : Cpu → Registers → Cpu
+withRegisters c control = record { psw = c .psw; timer = c .timer; control = control; general = c .general }
+
 -- the same unit, ended with another PSW
 abbrev pub endedWith : Event → Done → Psw → Done
 endedWith how d psw = record { event = how; psw = psw; timer = d .timer; control = d .control; register = d .register; value = d .value }
 
 -- the frames of a text have keys
 pub record WithKeys (keys : List ℕ) (t : Frames) : Type 0 where
-  pub first : t .first < length keys
-  pub second : t .second < length keys
+  pub first : 0 < t .count → t .first < length keys
+  pub second : 1 < t .count → t .second < length keys
 
 -- the marks of a text that was fetched from these frames
 unfoldable pub markText : Frames → List ℕ → List ℕ

@@ -1,4 +1,4 @@
-// One unit put into effect: the effect of each instruction and of each exception on state, storage and keys.
+// What the instructions share: how a unit ends, exceptions and interruptions put into effect, and operands that are reached.
 ghost use mathlib.Core.Path.{_≡_};
 ghost use Prim.Native.Nat.{ℕ, _+_, _*_, _≤_, _<_};
 ghost use mathlib.Core.Bool.{_&&_};
@@ -6,8 +6,7 @@ ghost use lib.Dec.{eqb};
 ghost use lib.ListN.{length};
 ghost use lib.Seq.{sets};
 ghost use Rattle.machine.specs.Record.{pswOf, pswBytes};
-ghost use Rattle.machine.specs.declared.Cpu.{Cpu};
-ghost use Rattle.machine.specs.Psw.{withPsw};
+ghost use Rattle.machine.specs.Psw.{wrap, withPsw, withTimer, withGeneral};
 ghost use Rattle.machine.specs.Words.{bit};
 ghost use Rattle.machine.specs.Refusals.{framesOf};
 ghost use Rattle.machine.specs.Failures.{operation, isTranslation};
@@ -16,8 +15,11 @@ ghost use Rattle.machine.specs.Outcomes.{Progress};
 ghost use Rattle.machine.specs.Interruptions.{interrupt, afterException, exception};
 ghost use Rattle.storage.specs.Entered.{Entered};
 ghost use Rattle.address.specs.Touching.{Inside, Backed};
-ghost use Rattle.address.specs.Operands.{markFrame};
-ghost use Rattle.execute.specs.After.{endedWith, WithKeys, markText, leftBy, Before, Standing, Left, areasOf, codeBytes, fieldsOf, InPrefixPage};
+ghost use Rattle.address.specs.Operands.{operandOf, markFrame};
+ghost use Rattle.execute.specs.After.{endedWith, WithKeys, markText, leftBy, Before, Standing, Left, areasOf, codeBytes, fieldsOf, InPrefixPage, withRegisters};
+ghost use Rattle.execute.specs.Reaching.{Ready, InReach, Reaches, Within, Does};
+use address::Operand;
+use machine::Cpu;
 use machine::Failure;
 use machine::Guest;
 use machine::Psw;
@@ -41,6 +43,15 @@ pub struct Done {
     pub control: Registers,
     pub register: u32,
     pub value: u32,
+}
+
+// An operand that an instruction has reached: where its bytes stand, as in address's Operand; or how the unit ended.
+pub struct Reached {
+    pub shut: bool,
+    pub first: u32,
+    pub count: u32,
+    pub second: u32,
+    pub done: Done,
 }
 
 // The frames that an instruction's text was fetched from: none, one or two.
@@ -86,8 +97,67 @@ fn faulted(start: Psw, after: Done, f: Failure) -> Done
     }
 }
 
+// The unit completed with this PSW.
+pub fn with_psw(cpu: Cpu, psw: Psw) -> Done
+    ensures { λ r. ⌜ (r .event ≡ Event.Completed) × (leftBy cpu r ≡ withPsw cpu psw) × Before cpu (cpu .psw) r ⌝ }
+{
+    let control = cpu.control;
+    Done {
+        event: Event::Completed,
+        psw,
+        timer: cpu.timer,
+        control,
+        register: NONE,
+        value: 0,
+    }
+}
+
+// The unit completed with this PSW and a value in general register i.
+pub fn with_general(cpu: Cpu, psw: Psw, i: u32, value: u32) -> Done
+    ensures { λ r. ⌜ (r .event ≡ Event.Completed) × (leftBy cpu r ≡ withPsw (withGeneral cpu i value) psw) × Before cpu (cpu .psw) r ⌝ }
+{
+    let control = cpu.control;
+    Done {
+        event: Event::Completed,
+        psw,
+        timer: cpu.timer,
+        control,
+        register: i,
+        value,
+    }
+}
+
+// The unit completed with this PSW and this CPU timer.
+pub fn with_timer(cpu: Cpu, psw: Psw, timer: u64) -> Done
+    ensures { λ r. ⌜ (r .event ≡ Event.Completed) × (leftBy cpu r ≡ withPsw (withTimer cpu timer) psw) ⌝ }
+{
+    let control = cpu.control;
+    Done {
+        event: Event::Completed,
+        psw,
+        timer,
+        control,
+        register: NONE,
+        value: 0,
+    }
+}
+
+// The unit completed with this PSW and these control registers.
+pub fn with_controls(cpu: Cpu, psw: Psw, control: Registers) -> Done
+    ensures { λ r. ⌜ (r .event ≡ Event.Completed) × (leftBy cpu r ≡ withPsw (withRegisters cpu control) psw) ⌝ }
+{
+    Done {
+        event: Event::Completed,
+        psw,
+        timer: cpu.timer,
+        control,
+        register: NONE,
+        value: 0,
+    }
+}
+
 // The same unit, ended with another PSW.
-fn ended_with(event: Event, after: Done, psw: Psw) -> Done
+pub fn ended_with(event: Event, after: Done, psw: Psw) -> Done
     ensures { λ r. ⌜ r ≡ endedWith event after psw ⌝ }
 {
     let control = after.control;
@@ -102,7 +172,7 @@ fn ended_with(event: Event, after: Done, psw: Psw) -> Done
 }
 
 // Marks the frames of the text.
-fn mark_text(keys: &mut [u8], t: Frames)
+pub fn mark_text(keys: &mut [u8], t: Frames)
     requires { ⌜ WithKeys (now keys) t ⌝ }
     ensures { λ _. ⌜ now (keys .exit) ≡ markText t (now (keys .entry)) ⌝ }
 {
@@ -307,4 +377,117 @@ pub fn exception(
     };
     let done = ended_with(Event::Completed, after, psw);
     interrupt(storage, keys, designation, guest, start, done, i, t)
+}
+
+// An exception of the state that the unit began with.
+pub fn excepted(
+    storage: &mut [u8],
+    keys: &mut [u8],
+    designation: u32,
+    guest: Guest,
+    cpu: Cpu,
+    text: Text,
+    t: Frames,
+    f: Failure,
+) -> Done
+    requires { ⌜ Ready (now storage) (now keys) guest text t ⌝ }
+    requires { ⌜ f .code < 65536 ⌝ }
+    ensures { λ r. ⌜ ((clock : ℕ) → Does (λ x. exception x (x .cpu) f) (host designation (now (storage .entry)) (now (keys .entry))) guest clock cpu text t r (now (storage .exit)) (now (keys .exit))) ⌝ }
+{
+    let done = with_psw(cpu, cpu.psw);
+    exception(storage, keys, designation, guest, cpu.psw, done, text, f, t)
+}
+
+// An operand of n bytes, by where it stands: the unit ends where it is shut, and the marks are made where it is open.
+fn reach_by(
+    storage: &mut [u8],
+    keys: &mut [u8],
+    designation: u32,
+    guest: Guest,
+    cpu: Cpu,
+    text: Text,
+    t: Frames,
+    store: bool,
+    n: u32,
+    operand: Operand,
+) -> Reached
+    requires { ⌜ Ready (now storage) (now keys) guest text t ⌝ }
+    requires { ⌜ InReach (now storage) (now keys) n operand ⌝ }
+    ensures { λ r. ⌜ ((x : Progress) (clock : ℕ) → Standing (host designation (now (storage .entry)) (now (keys .entry))) x guest clock cpu text t
+        → Reaches (host designation (now (storage .entry)) (now (keys .entry))) guest x cpu t store n r (now (storage .exit)) (now (keys .exit)) operand) ⌝ }
+    ensures { λ r. ⌜ Within (now (storage .exit)) n r ⌝ }
+{
+    match operand {
+        Operand::Shut(f) => {
+            let done = excepted(storage, keys, designation, guest, cpu, text, t, f);
+            Reached {
+                shut: true,
+                first: 0,
+                count: 0,
+                second: 0,
+                done,
+            }
+        }
+        Operand::Open {
+            first,
+            count,
+            second,
+        } => {
+            mark_text(keys, t);
+            writer::mark_operand(keys, n, first, count, second, store);
+            let done = with_psw(cpu, cpu.psw);
+            Reached {
+                shut: false,
+                first,
+                count,
+                second,
+                done,
+            }
+        }
+    }
+}
+
+// Reaches the operand of n bytes at a wrapped logical address: every access is known good before anything is stored or marked.
+pub fn reach(
+    storage: &mut [u8],
+    keys: &mut [u8],
+    designation: u32,
+    guest: Guest,
+    cpu: Cpu,
+    text: Text,
+    t: Frames,
+    store: bool,
+    a: u32,
+    n: u32,
+) -> Reached
+    requires { ⌜ Ready (now storage) (now keys) guest text t ⌝ }
+    requires { ⌜ (wrap cpu a ≡ a) × (1 ≤ n) × (n ≤ 4096) ⌝ }
+    ensures { λ r. ⌜ ((x : Progress) (clock : ℕ) → Standing (host designation (now (storage .entry)) (now (keys .entry))) x guest clock cpu text t
+        → Reaches (host designation (now (storage .entry)) (now (keys .entry))) guest x cpu t store n r (now (storage .exit)) (now (keys .exit))
+        (operandOf guest (host designation (now (storage .entry)) (now (keys .entry))) cpu store a n)) ⌝ }
+    ensures { λ r. ⌜ Within (now (storage .exit)) n r ⌝ }
+{
+    let operand = address::find_operand(
+        storage,
+        keys,
+        designation,
+        guest,
+        cpu.psw,
+        cpu.control,
+        store,
+        a,
+        n,
+    );
+    reach_by(
+        storage,
+        keys,
+        designation,
+        guest,
+        cpu,
+        text,
+        t,
+        store,
+        n,
+        operand,
+    )
 }

@@ -3,6 +3,7 @@
 use native.Mathlib.Nat.{div-one}
 use borrow.Author.Needs.{needs}
 use Rattle.machine.specs.Execute.{indexedAddress}
+use Rattle.cpu.proofs.Wrap.{wrap-wrap}
 use Rattle.cpu.proofs.indexed_address.Statement.{statement}
 use Rattle.cpu.proofs.indexed_address.Tie as tie
 
@@ -38,16 +39,18 @@ wrapped-requires c κs = search needs
 
 returns : tie.Need-returns
 unfolding indexedAddress
-returns c =
-    λ x psw general text.
-    rw (
-      c .wrapped .ensures .1 (x .cpu) psw,
-      c .before .address-part2 .ensures x general,
-      c .before .before .address-part .ensures x general,
-      text,
-      div-one,
-      div-one,
-    )
+returns c = (
+  λ k same. rw (c .wrapped .ensures .1 k same) (wrap-wrap k _),
+  λ x psw general text.
+      rw (
+        c .wrapped .ensures .1 (x .cpu) psw,
+        c .before .address-part2 .ensures x general,
+        c .before .before .address-part .ensures x general,
+        text,
+        div-one,
+        div-one,
+      ),
+)
 
 pub indexed-address-spec : {M : Type 1} → statement M
 indexed-address-spec =

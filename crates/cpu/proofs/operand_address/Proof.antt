@@ -3,6 +3,7 @@
 use native.Mathlib.Nat.{div-one}
 use borrow.Author.Needs.{needs}
 use Rattle.machine.specs.Execute.{operandAddress}
+use Rattle.cpu.proofs.Wrap.{wrap-wrap}
 use Rattle.cpu.proofs.operand_address.Statement.{statement}
 use Rattle.cpu.proofs.operand_address.Tie as tie
 
@@ -26,7 +27,10 @@ wrapped-requires c κs = search needs
 
 returns : tie.Need-returns
 unfolding operandAddress
-returns c = λ x psw general text. rw (c .wrapped .ensures .1 (x .cpu) psw, c .before .address-part .ensures x general, text, div-one)
+returns c = (
+  λ k same. rw (c .wrapped .ensures .1 k same) (wrap-wrap k _),
+  λ x psw general text. rw (c .wrapped .ensures .1 (x .cpu) psw, c .before .address-part .ensures x general, text, div-one),
+)
 
 pub operand-address-spec : {M : Type 1} → statement M
 operand-address-spec =

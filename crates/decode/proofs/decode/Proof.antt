@@ -78,7 +78,7 @@ returns-2 c =
     (c .before .before .loop .k)
     (c .before .before .loop .inv)
     (search needs)
-    (c .length-of .ensures)
+    (c .length-of .ensures .0)
     refl
     refl
 

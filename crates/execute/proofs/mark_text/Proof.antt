@@ -1,5 +1,6 @@
 -- `execute::mark_text` meets its contract.
 -- Assumes nothing.
+use native.Mathlib.Omega.{arith}
 use borrow.Author.Tests.{ne-eqb}
 use borrow.Author.Needs.{needs}
 use Rattle.machine.proofs.Tests.{tests}
@@ -12,7 +13,7 @@ unfolding markText
 returns c = search tests
 
 mark-fetched-requires : tie.Need-mark-fetched-requires
-mark-fetched-requires c κs = search needs
+mark-fetched-requires c κs = c .before .before .before .pre .first (omega (arith, c .before .if1 .left))
 
 same-length : tie.Need-same-length
 same-length c = search needs
@@ -22,7 +23,10 @@ unfolding markText
 returns-2 c = search tests
 
 mark-fetched-requires-2 : tie.Need-mark-fetched-requires-2
-mark-fetched-requires-2 c κs = search needs
+mark-fetched-requires-2 c κs =
+    let back6 = c .before .before .before .before .before .before in
+    let key = back6 .before .before .pre .second (omega (arith, back6 .if1 .left, c .before .if2 .left)) in
+    search (needs, key)
 
 same-length-2 : tie.Need-same-length-2
 same-length-2 c = search needs

@@ -1,0 +1,3 @@
+pub mod Fetching
+pub mod Loading
+pub mod Parts

@@ -1,0 +1,79 @@
+-- `text::fetch_first` meets its contract.
+-- Assumes nothing.
+use native.Mathlib.Omega.{arith}
+use mathlib.Core.Path.{ap, _∙_}
+use borrow.Author.Needs.{needs}
+use Rattle.machine.specs.Units.{firstText}
+use Rattle.text.specs.Fetching.{noText, noFrames, oneFrame}
+use Rattle.text.proofs.Halfwords.{shut, small-code, opened, fits, none-keyed, marked-first}
+use Rattle.text.proofs.Texts.{first-shut, first-open}
+use Rattle.text.proofs.fetch_first.Statement.{statement}
+use Rattle.text.proofs.fetch_first.Tie as tie
+
+enum-known-operand : tie.Need-enum-known-operand
+enum-known-operand c = search needs
+
+unfetched-requires : tie.Need-unfetched-requires
+unfetched-requires c κs = search needs
+
+enum-known-operand-2 : tie.Need-enum-known-operand-2
+enum-known-operand-2 c = search needs
+
+cast-half-at : tie.Need-cast-half-at
+cast-half-at c = search needs
+
+half-at-requires : tie.Need-half-at-requires
+half-at-requires c κs = fits (opened (c .before .before .before .before .before .pre .1) (c .before .operand2 .given .1))
+
+length-of-requires : tie.Need-length-of-requires
+length-of-requires c κs = search needs
+
+cast-t13 : tie.Need-cast-t13
+cast-t13 c = search needs
+
+fetch-second-requires : tie.Need-fetch-second-requires
+fetch-second-requires c κs =
+    let back3 = c .before .before .before in
+    let back7 = back3 .before .before .before .before in
+    let (entered, each) = back7 .pre .0 in
+    ((entered, each, c .length-of .ensures .2), opened (back7 .pre .1) (back3 .operand2 .given .1))
+
+returns : tie.Need-returns
+returns c =
+    let back2 = c .before .before in
+    let back6 = back2 .before .before .before .before in
+    let found = shut (back6 .pre .1) (back2 .operand .given .1) in
+    rw (c .unfetched .ensures) (
+      first-shut noText noFrames (back2 .operand .given .0 .0) found,
+      (none-keyed, omega arith, small-code found),
+    )
+
+returns-2 : tie.Need-returns-2
+returns-2 c =
+    let back2 = c .before .before in
+    let back4 = back2 .before .before in
+    let back8 = back4 .before .before .before .before in
+    let place = back4 .operand2 .given .0 .0 in
+    let half = back2 .half-at .result in
+    let length = c .before .length-of .result in (
+      first-open noText noFrames place (oneFrame place) (marked-first place) (record { ilc = length; first = half; second = 0; third = 0 })
+          (c .fetch-second .result) (opened (back8 .pre .1) (back4 .operand2 .given .1))
+          (ap (λ n. record { ilc = n; first = half; second = 0; third = 0 }) (c .before .length-of .ensures .0) ∙ ap firstText (back2 .half-at .ensures .0))
+          (c .fetch-second .ensures .0),
+      c .fetch-second .ensures .1,
+    )
+
+pub fetch-first-spec : {M : Type 1} → statement M
+fetch-first-spec =
+    tie.close
+    (tie.spec
+    enum-known-operand
+    unfetched-requires
+    enum-known-operand-2
+    cast-half-at
+    half-at-requires
+    length-of-requires
+    cast-t13
+    fetch-second-requires
+    returns
+    returns-2)

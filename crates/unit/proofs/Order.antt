@@ -1,0 +1,137 @@
+-- The order of an instruction's tests, test by test.
+-- Assumes nothing.
+use Prim.Native.Nat.{ℕ}
+use mathlib.Core.Bool.{Bool, true, false, cond, _&&_}
+use mathlib.Core.List.{List}
+use mathlib.Core.Path.{_≡_, refl, ap, sym, subst, _∙_}
+use Rattle.machine.specs.declared.Class.{Class}
+use Rattle.machine.specs.declared.Class.the-variants.{Unassigned}
+use Rattle.machine.specs.declared.Cpu.{Cpu}
+use Rattle.machine.specs.declared.Failure.{Failure}
+use Rattle.machine.specs.declared.Guest.{Guest}
+use Rattle.machine.specs.declared.Opcode.{Opcode}
+use Rattle.machine.specs.declared.Psw.{Psw}
+use Rattle.machine.specs.declared.Reason.{Reason}
+use Rattle.machine.specs.declared.Reason.the-variants as reason
+use Rattle.machine.specs.declared.Text.{Text}
+use Rattle.machine.specs.Psw.{problemState, withPsw, advanced}
+use Rattle.machine.specs.Failures.{operation, privilegedOperation, specification, exceptionOf}
+use Rattle.machine.specs.Host.{Host, view, marked}
+use Rattle.machine.specs.Opcodes.{opcodeOf}
+use Rattle.machine.specs.Outcomes.{Outcome, Progress}
+use Rattle.machine.specs.Interruptions.{exception}
+use Rattle.machine.specs.Execute.{next, operandAddress, interceptInstruction, execute}
+use Rattle.machine.specs.Units.{intercepts, misaligned, decoded, started, instruction, unit}
+use Rattle.cpu.specs.declared.Before.{Before}
+use Rattle.cpu.specs.declared.Before.the-variants.{Ends, Malformed, Instruction}
+use Rattle.cpu.specs.Before.{unitAfter}
+use Rattle.text.specs.declared.Fetched.{Fetched}
+use Rattle.text.specs.Fetching.{FetchedAs}
+use Rattle.execute.specs.declared.Done.{Done}
+use Rattle.execute.specs.declared.Event.the-variants as event
+use Rattle.execute.specs.declared.Frames.{Frames}
+use Rattle.execute.specs.After.{leftBy, markText, Standing, Left}
+use Rattle.execute.proofs.Exceptions.{left-intercepted}
+use Rattle.execute.proofs.Reaching.{past-it}
+
+module _ (h : Host) (x : Progress) {g : Guest} {clock : ℕ} {c : Cpu} {text : Text} {t : Frames} (standing : Standing h x g clock c text t) where
+  -- code 4
+  pub instruction-intercepted : (d : Done) (psw : Psw) → psw ≡ advanced c (text .ilc) .psw → d .event ≡ event.Intercepted (reason.Instruction text) → leftBy c d ≡ withPsw c psw
+      → Left h g c (interceptInstruction x) d (h .storage) (h .keys)
+  unfolding interceptInstruction
+  instruction-intercepted d psw moved ended left =
+      left-intercepted h g c (reason.Instruction (x .text)) (next x (x .cpu)) d (ended ∙ ap (λ u. event.Intercepted (reason.Instruction u)) (sym (standing .ofText)))
+      (left ∙ past-it h x standing c psw moved ∙ ap (next x) (sym (standing .ofCpu)))
+
+  -- the tests in their order: privilege, interception, alignment, and then the instruction
+  module _ (o : Opcode) (d : Done) {storage keys : List ℕ} where
+    -- with the tests that the code has made
+    by-tests : (p q r : Bool) → (o .privileged && problemState c) ≡ p → intercepts (o .class) x ≡ q → misaligned (o .class) (operandAddress x) ≡ r
+        → Left h g c
+        (cond p (exception x (x .cpu) (exceptionOf privilegedOperation))
+        (cond q (interceptInstruction x) (cond r (exception x (x .cpu) (exceptionOf specification)) (execute (o .class) x)))) d storage keys
+        → Left h g c (decoded x o) d storage keys
+    unfolding decoded
+    by-tests p q r privileged asked aligned left =
+        subst (λ o. Left h g c o d storage keys)
+        (λ i. cond ((sym privileged ∙ ap (λ k. o .privileged && problemState k) (sym (standing .ofCpu))) i) (exception x (x .cpu) (exceptionOf privilegedOperation))
+        (cond (sym asked i) (interceptInstruction x) (cond (sym aligned i) (exception x (x .cpu) (exceptionOf specification)) (execute (o .class) x))))
+        left
+
+    pub decoded-forbidden : (f : Failure) → f ≡ exceptionOf privilegedOperation → (o .privileged && problemState c) ≡ true
+        → Left h g c (exception x (x .cpu) f) d storage keys → Left h g c (decoded x o) d storage keys
+    decoded-forbidden f code privileged left =
+        by-tests true _ _ privileged refl refl (subst (λ f. Left h g c (exception x (x .cpu) f) d storage keys) code left)
+
+    pub decoded-intercepted : (o .privileged && problemState c) ≡ false → intercepts (o .class) x ≡ true → Left h g c (interceptInstruction x) d storage keys
+        → Left h g c (decoded x o) d storage keys
+    decoded-intercepted privileged asked left = by-tests false true _ privileged asked refl left
+
+    pub decoded-misaligned : (f : Failure) → f ≡ exceptionOf specification → (o .privileged && problemState c) ≡ false → intercepts (o .class) x ≡ false
+        → misaligned (o .class) (operandAddress x) ≡ true → Left h g c (exception x (x .cpu) f) d storage keys → Left h g c (decoded x o) d storage keys
+    decoded-misaligned f code privileged asked aligned left =
+        by-tests false false true privileged asked aligned (subst (λ f. Left h g c (exception x (x .cpu) f) d storage keys) code left)
+
+    pub decoded-executed : (o .privileged && problemState c) ≡ false → intercepts (o .class) x ≡ false → misaligned (o .class) (operandAddress x) ≡ false
+        → Left h g c (execute (o .class) x) d storage keys → Left h g c (decoded x o) d storage keys
+    decoded-executed privileged asked aligned left = by-tests false false false privileged asked aligned left
+
+-- an instruction by its class
+pub performed : (h : Host) (g : Guest) (c : Cpu) (x : Progress) {class kind : Class} (d : Done) {storage keys : List ℕ} → class ≡ kind
+    → Left h g c (execute kind x) d storage keys → Left h g c (execute class x) d storage keys
+performed h g c x d {storage} {keys} known left = subst (λ k. Left h g c (execute k x) d storage keys) (sym known) left
+
+-- an opcode that is not assigned is an operation exception
+pub performed-unassigned : (h : Host) (g : Guest) (c : Cpu) (x : Progress) {class : Class} (d : Done) {storage keys : List ℕ} (f : Failure) → f ≡ exceptionOf operation
+    → class ≡ Unassigned → Left h g c (exception x (x .cpu) f) d storage keys → Left h g c (execute class x) d storage keys
+unfolding execute
+performed-unassigned h g c x d {storage} {keys} f code known left =
+    performed h g c x d known (subst (λ f. Left h g c (exception x (x .cpu) f) d storage keys) code left)
+
+-- the fetch of the text, as it ended
+module _ (h : Host) (g : Guest) (clock : ℕ) (c : Cpu) {o : Outcome} (r : Fetched) (d : Done) {storage keys : List ℕ} (fetched : FetchedAs h g clock c o r) where
+  by-end : (b : Bool) → r .failed ≡ b → Left h g c (cond b (exception (fetched .0) c (r .failure)) (decoded (fetched .0) (opcodeOf (r .text .first)))) d storage keys
+      → Left h g c o d storage keys
+  by-end b ends left =
+      subst (λ o. Left h g c o d storage keys)
+      (sym (fetched .2 ∙ ap (λ b. cond b (exception (fetched .0) c (r .failure)) (decoded (fetched .0) (opcodeOf (r .text .first)))) ends))
+      left
+
+  pub fetch-failed : r .failed ≡ true
+      → ((x : Progress) → Standing h x g clock c (r .text) (r .frames) → Left h g c (exception x (x .cpu) (r .failure)) d storage keys)
+      → Left h g c o d storage keys
+  fetch-failed ends left =
+      by-end true ends (subst (λ k. Left h g c (exception (fetched .0) k (r .failure)) d storage keys) (fetched .1 .ofCpu) (left (fetched .0) (fetched .1)))
+
+  pub fetch-whole : r .failed ≡ false → (code : Opcode) → code ≡ opcodeOf (r .text .first)
+      → ((x : Progress) → Standing h x g clock c (r .text) (r .frames) → Left h g c (decoded x code) d storage keys) → Left h g c o d storage keys
+  fetch-whole ends code named left =
+      by-end false ends (subst (λ code. Left h g c (decoded (fetched .0) code) d storage keys) named (left (fetched .0) (fetched .1)))
+
+-- before the instruction: nothing is fetched
+pub standing-unfetched : (h : Host) (g : Guest) (clock : ℕ) (c : Cpu) (text : Text) → text ≡ record { ilc = 0; first = 0; second = 0; third = 0 }
+    → Standing h (started g clock (view g h) c 0) g clock c text (record { count = 0; first = 0; second = 0 })
+unfolding marked markText
+standing-unfetched h g clock c text none = record { ofGuest = refl; ofClock = refl; ofView = refl; ofCpu = refl; ofText = sym none; marks = λ k. refl }
+
+-- a unit by what the list before it comes to
+module _ (h : Host) (g : Guest) (clock : ℕ) (c : Cpu) (before : Before) (d : Done) where
+  pub after-ends : (why : Reason) → before ≡ Ends why → d .event ≡ event.Intercepted why → leftBy c d ≡ c
+      → Left h g c (unitAfter g clock (view g h) c before) d (h .storage) (h .keys)
+  after-ends why list ended left =
+      subst (λ b. Left h g c (unitAfter g clock (view g h) c b) d (h .storage) (h .keys)) (sym list) (left-intercepted h g c why c d ended left)
+
+  module _ {storage keys : List ℕ} where
+    pub after-malformed : (f : Failure) → f ≡ exceptionOf specification → before ≡ Malformed → Left h g c (exception (started g clock (view g h) c 0) c f) d storage keys
+        → Left h g c (unitAfter g clock (view g h) c before) d storage keys
+    after-malformed f code list left =
+        subst (λ b. Left h g c (unitAfter g clock (view g h) c b) d storage keys) (sym list)
+        (subst (λ f. Left h g c (exception (started g clock (view g h) c 0) c f) d storage keys) code left)
+
+    pub after-instruction : before ≡ Instruction → Left h g c (instruction (started g clock (view g h) c 1)) d storage keys
+        → Left h g c (unitAfter g clock (view g h) c before) d storage keys
+    after-instruction list left = subst (λ b. Left h g c (unitAfter g clock (view g h) c b) d storage keys) (sym list) left
+
+    pub after-list : unit g clock (view g h) c ≡ unitAfter g clock (view g h) c before → Left h g c (unitAfter g clock (view g h) c before) d storage keys
+        → Left h g c (unit g clock (view g h) c) d storage keys
+    after-list list left = subst (λ o. Left h g c o d storage keys) (sym list) left

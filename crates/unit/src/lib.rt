@@ -1,0 +1,283 @@
+// One unit of a guest: the list before it, the fetch of the text, the order of an instruction's tests, and the instruction. The
+// contract of unit equates how it ends, state, storage and keys with machine's unit put into effect.
+ghost use mathlib.Core.Path.{_≡_};
+ghost use mathlib.Core.Bool.{_&&_};
+ghost use Prim.Native.Nat.{ℕ, _≤_};
+ghost use lib.ListN.{length};
+ghost use Rattle.machine.specs.Refusals.{framesOf};
+ghost use Rattle.machine.specs.Psw.{problemState};
+ghost use Rattle.machine.specs.Failures.{exceptionOf};
+ghost use Rattle.machine.specs.Host.{Host, host, view};
+ghost use Rattle.machine.specs.Outcomes.{Progress};
+ghost use Rattle.machine.specs.Execute.{interceptInstruction, execute};
+ghost use Rattle.machine.specs.Units.{intercepts, decoded, started, instruction, unit};
+ghost use Rattle.storage.specs.Entered.{Entered};
+ghost use Rattle.cpu.specs.Before.{unitAfter};
+ghost use Rattle.execute.specs.After.{Left};
+ghost use Rattle.execute.specs.Reaching.{Ready, Does};
+use cpu::Before;
+use execute::Done;
+use execute::Event;
+use execute::Frames;
+use machine::Class;
+use machine::Cpu;
+use machine::Failure;
+use machine::Guest;
+use machine::Opcode;
+use machine::Psw;
+use machine::Reason;
+use machine::Text;
+
+const OPERATION: u32 = 1;
+
+const PRIVILEGED_OPERATION: u32 = 2;
+
+const SPECIFICATION: u32 = 6;
+
+// The guest's controls ask for an interception of the instruction.
+fn intercepts(class: Class, guest: Guest, text: Text) -> bool
+    ensures { λ r. ⌜ ((x : Progress) → x .guest ≡ guest → x .text ≡ text → r ≡ intercepts class x) ⌝ }
+{
+    match class {
+        Class::Lr => false,
+        Class::Ar => false,
+        Class::Sr => false,
+        Class::Bcr => false,
+        Class::Svc => cpu::intercepts_svc(guest, text.first as u32 % 256),
+        Class::La => false,
+        Class::Bc => false,
+        Class::St => false,
+        Class::L => false,
+        Class::Lpsw => guest.interceptions / 32 % 2 == 1,
+        Class::Stctl => false,
+        Class::Lctl => cpu::intercepts_lctl(
+            guest,
+            text.first as u32 / 16 % 16,
+            cpu::range_count(text),
+        ),
+        Class::Stck => false,
+        Class::Spt => false,
+        Class::Stpt => false,
+        Class::Mandatory => false,
+        Class::Unassigned => false,
+    }
+}
+
+// Code 4: the interception has the text, and the PSW is past the instruction.
+fn intercept_instruction(cpu: Cpu, text: Text) -> Done
+    requires { ⌜ text .ilc ≤ 3 ⌝ }
+    ensures { λ r. ⌜ ((h : Host) (g : Guest) (clock : ℕ) (t : Frames) → Does interceptInstruction h g clock cpu text t r (h .storage) (h .keys)) ⌝ }
+{
+    let psw = cpu::advanced(cpu.psw, text.ilc as u32);
+    execute::ended_with(
+        Event::Intercepted(Reason::Instruction(text)),
+        execute::with_psw(cpu, cpu.psw),
+        psw,
+    )
+}
+
+// A privileged operation in problem state.
+fn forbidden(privileged: bool, psw: Psw) -> bool
+    ensures { λ r. ⌜ ((c : Cpu) → c .psw ≡ psw → r ≡ (privileged && problemState c)) ⌝ }
+{
+    if privileged {
+        return cpu::problem_state(psw);
+    }
+    false
+}
+
+// A guest program exception with no address.
+fn exception_of(code: u32) -> Failure
+    ensures { λ r. ⌜ r ≡ exceptionOf code ⌝ }
+{
+    Failure {
+        host: false,
+        code,
+        address: 0,
+    }
+}
+
+// No text: the instruction length code is 0.
+fn unfetched() -> Text
+    ensures { λ r. ⌜ r ≡ record { ilc = 0; first = 0; second = 0; third = 0 } ⌝ }
+{
+    Text {
+        ilc: 0,
+        first: 0,
+        second: 0,
+        third: 0,
+    }
+}
+
+// The effect of an instruction, by its class.
+fn perform(
+    class: Class,
+    storage: &mut [u8],
+    keys: &mut [u8],
+    designation: u32,
+    guest: Guest,
+    clock: u64,
+    cpu: Cpu,
+    text: Text,
+    t: Frames,
+) -> Done
+    requires { ⌜ Ready (now storage) (now keys) guest text t ⌝ }
+    ensures { λ r. ⌜ Does (execute class) (host designation (now (storage .entry)) (now (keys .entry))) guest clock cpu text t r (now (storage .exit)) (now (keys .exit)) ⌝ }
+{
+    match class {
+        Class::Lr => registers::load_register(keys, cpu, text, t),
+        Class::Ar => registers::add(storage, keys, designation, guest, cpu, text, t),
+        Class::Sr => registers::subtract(storage, keys, designation, guest, cpu, text, t),
+        Class::Bcr => registers::branch_register(keys, cpu, text, t),
+        Class::Svc => registers::supervisor_call(storage, keys, designation, guest, cpu, text, t),
+        Class::La => registers::load_address(keys, cpu, text, t),
+        Class::Bc => registers::branch_indexed(keys, cpu, text, t),
+        Class::St => stores::store(storage, keys, designation, guest, cpu, text, t),
+        Class::L => loads::load(storage, keys, designation, guest, cpu, text, t),
+        Class::Lpsw => loads::load_psw(storage, keys, designation, guest, cpu, text, t),
+        Class::Stctl => stores::store_control(storage, keys, designation, guest, cpu, text, t),
+        Class::Lctl => loads::load_control(storage, keys, designation, guest, cpu, text, t),
+        Class::Stck => stores::store_clock(storage, keys, designation, guest, clock, cpu, text, t),
+        Class::Spt => loads::set_timer(storage, keys, designation, guest, cpu, text, t),
+        Class::Stpt => stores::store_timer(storage, keys, designation, guest, cpu, text, t),
+        Class::Mandatory => intercept_instruction(cpu, text),
+        Class::Unassigned => {
+            let f = exception_of(OPERATION);
+            execute::excepted(storage, keys, designation, guest, cpu, text, t, f)
+        }
+    }
+}
+
+// An instruction whose text is fetched: privilege, interception and alignment are tested before its operand.
+fn decoded(
+    storage: &mut [u8],
+    keys: &mut [u8],
+    designation: u32,
+    guest: Guest,
+    clock: u64,
+    cpu: Cpu,
+    text: Text,
+    t: Frames,
+    o: Opcode,
+) -> Done
+    requires { ⌜ Ready (now storage) (now keys) guest text t ⌝ }
+    ensures { λ r. ⌜ Does (λ x. decoded x o) (host designation (now (storage .entry)) (now (keys .entry))) guest clock cpu text t r (now (storage .exit)) (now (keys .exit)) ⌝ }
+{
+    if forbidden(o.privileged, cpu.psw) {
+        let f = exception_of(PRIVILEGED_OPERATION);
+        return execute::excepted(storage, keys, designation, guest, cpu, text, t, f);
+    }
+    let class = o.class;
+    if intercepts(class, guest, text) {
+        return intercept_instruction(cpu, text);
+    }
+    let a = cpu::operand_address(cpu.psw, cpu.general, text);
+    if cpu::misaligned(class, a) {
+        let f = exception_of(SPECIFICATION);
+        return execute::excepted(storage, keys, designation, guest, cpu, text, t, f);
+    }
+    perform(
+        class,
+        storage,
+        keys,
+        designation,
+        guest,
+        clock,
+        cpu,
+        text,
+        t,
+    )
+}
+
+// The instruction at the PSW's address.
+fn instruction(
+    storage: &mut [u8],
+    keys: &mut [u8],
+    designation: u32,
+    guest: Guest,
+    clock: u64,
+    cpu: Cpu,
+) -> Done
+    requires { ⌜ Entered guest × (framesOf (now storage) ≤ length (now keys)) ⌝ }
+    ensures { λ r. ⌜ Left (host designation (now (storage .entry)) (now (keys .entry))) guest cpu
+        (instruction (started guest clock (view guest (host designation (now (storage .entry)) (now (keys .entry)))) cpu 1)) r (now (storage .exit)) (now (keys .exit)) ⌝ }
+{
+    let fetched = text::fetch(storage, keys, designation, guest, cpu.psw, cpu.control);
+    let words = fetched.text;
+    let frames = fetched.frames;
+    if fetched.failed {
+        let failure = fetched.failure;
+        return execute::excepted(
+            storage,
+            keys,
+            designation,
+            guest,
+            cpu,
+            words,
+            frames,
+            failure,
+        );
+    }
+    let opcode = decode::decode(words.first as u32);
+    decoded(
+        storage,
+        keys,
+        designation,
+        guest,
+        clock,
+        cpu,
+        words,
+        frames,
+        opcode,
+    )
+}
+
+// A unit, by what the list before it comes to.
+fn unit_after(
+    storage: &mut [u8],
+    keys: &mut [u8],
+    designation: u32,
+    guest: Guest,
+    clock: u64,
+    cpu: Cpu,
+    before: Before,
+) -> Done
+    requires { ⌜ Entered guest × (framesOf (now storage) ≤ length (now keys)) ⌝ }
+    ensures { λ r. ⌜ Left (host designation (now (storage .entry)) (now (keys .entry))) guest cpu
+        (unitAfter guest clock (view guest (host designation (now (storage .entry)) (now (keys .entry)))) cpu before) r (now (storage .exit)) (now (keys .exit)) ⌝ }
+{
+    match before {
+        Before::Ends(reason) => execute::ended_with(
+            Event::Intercepted(reason),
+            execute::with_psw(cpu, cpu.psw),
+            cpu.psw,
+        ),
+        Before::Malformed => {
+            let f = exception_of(SPECIFICATION);
+            let none = Frames {
+                count: 0,
+                first: 0,
+                second: 0,
+            };
+            execute::excepted(storage, keys, designation, guest, cpu, unfetched(), none, f)
+        }
+        Before::Instruction => instruction(storage, keys, designation, guest, clock, cpu),
+    }
+}
+
+// One unit of the guest from this state at this host clock.
+pub fn unit(
+    storage: &mut [u8],
+    keys: &mut [u8],
+    designation: u32,
+    guest: Guest,
+    clock: u64,
+    cpu: Cpu,
+) -> Done
+    requires { ⌜ Entered guest × (framesOf (now storage) ≤ length (now keys)) ⌝ }
+    ensures { λ r. ⌜ Left (host designation (now (storage .entry)) (now (keys .entry))) guest cpu
+        (unit guest clock (view guest (host designation (now (storage .entry)) (now (keys .entry)))) cpu) r (now (storage .exit)) (now (keys .exit)) ⌝ }
+{
+    let before = cpu::before_unit(guest, clock, cpu.psw, cpu.timer, cpu.control);
+    unit_after(storage, keys, designation, guest, clock, cpu, before)
+}
