@@ -40,7 +40,7 @@ extern "C" {
 #define DREVOKAS_REFUSED 0u           /* number: the refusal, 1 to 8 */
 #define DREVOKAS_INTERCEPTED 1u       /* number: the interception code; 32 for an entry that fails */
 #define DREVOKAS_HOST_FAULT 2u        /* number: the program code of the host fault */
-#define DREVOKAS_BUDGET_USED 3u       /* number: 0; not an answer of check or translate */
+#define DREVOKAS_BUDGET_USED 3u       /* number: 0; an answer of run alone */
 #define DREVOKAS_PROGRAM_EXCEPTION 4u /* number: the guest's program code */
 #define DREVOKAS_GOOD 5u              /* number: 0; check: good; translate: translated */
 
@@ -49,13 +49,21 @@ extern "C" {
 #define DREVOKAS_REFUSAL_VERSION 2u  /* version is not 1 */
 #define DREVOKAS_REFUSAL_STORAGE 3u  /* storage is empty, over 4,096 frames or not whole frames */
 #define DREVOKAS_REFUSAL_KEYS 4u     /* number of keys differs from number of frames */
-#define DREVOKAS_REFUSAL_BUDGET 5u   /* budget too large; not an answer of check or translate */
-#define DREVOKAS_REFUSAL_TIME 6u     /* time per unit too large; not an answer of check or translate */
+#define DREVOKAS_REFUSAL_BUDGET 5u   /* budget over 65,535; an answer of run alone */
+#define DREVOKAS_REFUSAL_TIME 6u     /* time per unit over 1,048,576; an answer of run alone */
 #define DREVOKAS_REFUSAL_RESERVED 7u /* one of bytes 66-71 is not zero */
 #define DREVOKAS_REFUSAL_ACCESS 8u   /* access kind is not 0, 1 or 2 */
 
-/* The interception code of an entry that fails: mode, origin and extent, or prefix. */
-#define DREVOKAS_CODE_VALIDITY 32u
+/* Interception codes. */
+#define DREVOKAS_CODE_INSTRUCTION 4u       /* the controls ask for it, or it is mandatory */
+#define DREVOKAS_CODE_PROGRAM 8u           /* program exception */
+#define DREVOKAS_CODE_EXTERNAL_REQUEST 16u /* external request */
+#define DREVOKAS_CODE_EXTERNAL 20u         /* external interruption: comparator or CPU timer */
+#define DREVOKAS_CODE_IO_REQUEST 24u       /* I/O request */
+#define DREVOKAS_CODE_WAIT 28u             /* wait state */
+#define DREVOKAS_CODE_VALIDITY 32u         /* entry: mode, origin and extent, or prefix; or a PSW bit of a facility not installed */
+#define DREVOKAS_CODE_STOP 40u             /* stop request */
+#define DREVOKAS_CODE_OPERATION 44u        /* operation exception */
 
 /* Program codes, of the guest's exceptions and of host faults. */
 #define DREVOKAS_PROTECTION 0x04u
@@ -81,7 +89,7 @@ static inline uint32_t drevokas_number(uint64_t answer)
     return (uint32_t)(answer >> 48 & 0xffu);
 }
 
-/* Zero in the answers of check and translate. */
+/* The units completed, of run; zero in the answers of check and translate and in a refusal. */
 static inline uint32_t drevokas_units(uint64_t answer)
 {
     return (uint32_t)(answer & 0xffffffffu);
@@ -122,6 +130,27 @@ uint64_t drevokas_check(const uint8_t *record, size_t record_len);
 uint64_t drevokas_translate(const uint8_t *record, size_t record_len, const uint8_t *storage, size_t storage_len,
                             const uint8_t *keys, size_t keys_len, uint32_t designation, uint32_t address,
                             uint32_t access, uint64_t *where);
+
+/*
+ * Runs the guest for at most `budget` units (0 to 65,535) from the host clock `clock`, with `time` (0 to 1,048,576)
+ * clock units for each. Answers:
+ *
+ *   kind                   number                                 units        *where
+ *   DREVOKAS_REFUSED       1, 2, 3, 4, 5, 6 or 7                  0            not touched
+ *   DREVOKAS_INTERCEPTED   4, 8, 16, 20, 24, 28, 32, 40 or 44     completed    0
+ *   DREVOKAS_HOST_FAULT    4, 5, 10, 11 or 12 hex                 completed    host virtual address
+ *   DREVOKAS_BUDGET_USED   0                                      completed    0
+ *
+ * A refusal changes no byte. Otherwise the record is as document 01 says: the state after the completed units, and
+ * bytes 52-65 by the end. A host fault undoes its whole unit: after the host has mended the page, the same call with the
+ * same record goes on. A run goes on from any end but a refusal when it is called again with the record that it left
+ * and the clock advanced by units times time (modulo 2^64).
+ *
+ * Writes the record, the storage, the keys and *where, which must be apart from one another.
+ */
+uint64_t drevokas_run(uint8_t *record, size_t record_len, uint8_t *storage, size_t storage_len, uint8_t *keys,
+                      size_t keys_len, uint32_t designation, uint64_t clock, uint32_t time, uint32_t budget,
+                      uint64_t *where);
 
 #ifdef __cplusplus
 }
