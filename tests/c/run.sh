@@ -1,5 +1,5 @@
 #!/bin/sh
-# Builds the C tests against the static library and runs them, test_translate under valgrind too if it is there.
+# Builds the C tests against the static library and runs them, those with tests of their own under valgrind too if it is there.
 # Fails if anything fails. LIB names another library, seen from the root of the repository; CC another compiler.
 set -eu
 cd "$(dirname "$0")/../.."
@@ -21,13 +21,18 @@ if command -v g++ > /dev/null; then
 fi
 
 "$CC" $FLAGS -O1 -g -o "$OUT/test_translate" tests/c/test_translate.c "$LIB"
+"$CC" $FLAGS -O1 -g -o "$OUT/test_run" tests/c/test_run.c "$LIB"
 "$CC" $FLAGS -O2 -o "$OUT/compare_translate" tests/c/compare_translate.c bench/plain.c "$LIB"
 
 echo "test_translate"
 "$OUT/test_translate"
+echo "test_run"
+"$OUT/test_run"
 echo "compare_translate"
 "$OUT/compare_translate"
 if command -v valgrind > /dev/null; then
     echo "test_translate under valgrind"
     valgrind --error-exitcode=9 -q "$OUT/test_translate"
+    echo "test_run under valgrind"
+    valgrind --error-exitcode=9 -q "$OUT/test_run"
 fi
