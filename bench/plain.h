@@ -1,4 +1,4 @@
-/* Plain C versions of drevokas_check and drevokas_translate, to compare answers and speed with. */
+/* Plain C versions of drevokas_check, drevokas_translate and drevokas_run, to compare answers and speed with. */
 #ifndef PLAIN_H
 #define PLAIN_H
 
@@ -10,5 +10,8 @@ uint64_t plain_check(const uint8_t *record, size_t record_len);
 uint64_t plain_translate(const uint8_t *record, size_t record_len, const uint8_t *storage, size_t storage_len,
                          const uint8_t *keys, size_t keys_len, uint32_t designation, uint32_t address,
                          uint32_t access, uint64_t *where);
+
+uint64_t plain_run(uint8_t *record, size_t record_len, uint8_t *storage, size_t storage_len, uint8_t *keys, size_t keys_len,
+                   uint32_t designation, uint64_t clock, uint32_t time, uint32_t budget, uint64_t *where);
 
 #endif

@@ -1,5 +1,5 @@
 #!/bin/sh
-# Builds the benchmark and runs it. LIB names another library, seen from this directory; CC another compiler; FLAGS more of its
+# Builds the benchmarks of translate and run and runs them. LIB names another library, seen from this directory; CC another compiler; FLAGS more of its
 # flags, as -DBYTE_LOADS, with which the plain implementation reads its words byte by byte.
 set -eu
 cd "$(dirname "$0")"
@@ -13,4 +13,6 @@ if [ ! -f "$LIB" ]; then
 fi
 mkdir -p "$OUT"
 "$CC" -std=c99 -Wall -Wextra -Werror -pedantic -O2 ${FLAGS:-} -o "$OUT/bench_translate" bench_translate.c plain.c "$LIB"
-exec "$OUT/bench_translate"
+"$CC" -std=c99 -Wall -Wextra -Werror -pedantic -O2 ${FLAGS:-} -o "$OUT/bench_run" bench_run.c plain.c "$LIB"
+"$OUT/bench_translate"
+"$OUT/bench_run"

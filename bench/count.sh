@@ -1,0 +1,31 @@
+#!/bin/sh
+# Machine instructions a unit, counted by callgrind: repeatable, whatever else the machine does. Needs valgrind and the static library.
+set -eu
+cd "$(dirname "$0")"
+CC=${CC:-gcc}
+LIB=${LIB:-../target/staticlib/libdrevokas.a}
+OUT=../target/c
+
+if [ ! -f "$LIB" ]; then
+    echo "bench/count.sh: no $LIB; build the static library first" >&2
+    exit 1
+fi
+mkdir -p "$OUT"
+"$CC" -std=c99 -Wall -Wextra -Werror -pedantic -O2 -o "$OUT/bench_run" bench_run.c plain.c "$LIB"
+
+instructions() { # CASE FRAMES WHO UNITS
+    valgrind --tool=callgrind --callgrind-out-file=/dev/null "$OUT/bench_run" "$@" 2>&1 | sed -n 's/.*refs: *//p' | tr -d ,
+}
+
+per_unit() { # CASE FRAMES WHO
+    few=$(instructions "$1" "$2" "$3" 1000)
+    many=$(instructions "$1" "$2" "$3" 11000)
+    echo $(((many - few + 5000) / 10000))
+}
+
+printf '%-20s %6s %10s %10s\n' case frames drevokas plain
+for name in AR+BC AR+BC,DAT L+AR+ST+LA+BC L+AR+ST+LA+BC,DAT SVC SVC,DAT; do
+    for frames in 8 4096; do
+        printf '%-20s %6s %10s %10s\n' "$name" "$frames" "$(per_unit "$name" "$frames" drevokas)" "$(per_unit "$name" "$frames" plain)"
+    done
+done
