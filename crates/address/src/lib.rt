@@ -12,7 +12,7 @@ ghost use Rattle.machine.specs.Host.{host, view};
 ghost use Rattle.machine.specs.Addresses.{prefixed, guestEntry, realPage, lowProtected};
 ghost use Rattle.storage.specs.Entered.{Entered};
 ghost use Rattle.storage.specs.Steps.{readThrough};
-ghost use Rattle.address.specs.Touching.{seen, Aligned, Inside, Small, Backed, entryBehind, settled, guestProtects, touched, touchOf};
+ghost use Rattle.address.specs.Touching.{seen, Aligned, Small, Backed, settled, guestProtects, touched, touchOf};
 ghost use Rattle.address.specs.Operands.{inOnePage, inTwoPages, operandOf};
 use machine::Failure;
 use machine::Guest;
@@ -65,32 +65,17 @@ fn prefixed(guest: Guest, a: u32) -> u32
     a
 }
 
-// The guest table entry at a guest absolute address, by the host page behind it.
-fn entry_behind(storage: &[u8], a: u32, w: Walk) -> TableEntry
-    requires { ⌜ (a % 4 ≡ 0) × Inside (now storage) w ⌝ }
-    ensures { λ r. ⌜ r ≡ entryBehind (now (storage .entry)) a w ⌝ }
-{
-    match w {
-        Walk::Page {
-            frame,
-            protected: _,
-        } => TableEntry::Word(words::word_at(storage, frame as usize * 4096 + a as usize % 4096)),
-        Walk::Failed(f) => TableEntry::Unread(f),
-    }
-}
-
 // The guest table entry at a guest real address, whatever the keys are.
 fn guest_entry(storage: &[u8], designation: u32, guest: Guest, real: u32) -> TableEntry
     requires { ⌜ Entered guest × (real % 4 ≡ 0) ⌝ }
     ensures { λ r. ⌜ ((k : List ℕ) → r ≡ guestEntry guest (view guest (host designation (now (storage .entry)) k)) real) ⌝ }
 {
-    let absolute = prefixed(guest, real);
-    let behind = storage::behind(storage, designation, guest.origin, guest.extent, absolute);
-    entry_behind(
-        storage,
-        absolute,
-        storage::unpacked(guest.origin, absolute, behind),
-    )
+    let at = prefixed(guest, real);
+    let entry = storage::entry_behind(storage, designation, guest.origin, guest.extent, at);
+    if entry < 4294967296 {
+        return TableEntry::Word(entry as u32);
+    }
+    TableEntry::Unread(storage::unpacked_failure(guest.origin, at, entry))
 }
 
 // The guest table entry at the address that a step led to.
@@ -179,30 +164,23 @@ fn settle(
     store: bool,
     protected: bool,
     a: u32,
-    w: Walk,
+    frame: u32,
+    host: bool,
 ) -> Place
-    requires { ⌜ Entered guest × Backed guest (now keys) a w ⌝ }
-    ensures { λ r. ⌜ r ≡ settled guest (now (keys .entry)) store (guestProtects (seen psw control) store protected) a w ⌝ }
+    requires { ⌜ Entered guest × Backed guest (now keys) a (Walk.Page frame host) ⌝ }
+    ensures { λ r. ⌜ r ≡ settled guest (now (keys .entry)) store (guestProtects (seen psw control) store protected) a (Walk.Page frame host) ⌝ }
 {
-    match w {
-        Walk::Page {
-            frame,
-            protected: host,
-        } => {
-            if guest_protects(psw, control, store, protected, keys[frame as usize]) {
-                return Place::Denied(exception(PROTECTION));
-            }
-            if both(store, host) {
-                return Place::Denied(Failure {
-                    host: true,
-                    code: PROTECTION,
-                    address: guest.origin as u32 * 65536 + a,
-                });
-            }
-            Place::At(frame * 4096 + a % 4096)
-        }
-        Walk::Failed(f) => Place::Denied(f),
+    if guest_protects(psw, control, store, protected, keys[frame as usize]) {
+        return Place::Denied(exception(PROTECTION));
     }
+    if both(store, host) {
+        return Place::Denied(Failure {
+            host: true,
+            code: PROTECTION,
+            address: guest.origin as u32 * 65536 + a,
+        });
+    }
+    Place::At(frame * 4096 + a % 4096)
 }
 
 // A byte of a real page.
@@ -222,16 +200,24 @@ fn in_page(
 {
     match w {
         Walk::Page { frame, protected } => {
-            let absolute = prefixed(guest, frame * 4096 + a % 4096);
-            let behind = storage::behind(
-                storage,
-                designation,
-                guest.origin,
-                guest.extent,
-                absolute,
-            );
-            let page = storage::unpacked(guest.origin, absolute, behind);
-            settle(keys, guest, psw, control, store, protected, absolute, page)
+            let at = prefixed(guest, frame * 4096 + a % 4096);
+            let page = storage::behind(storage, designation, guest.origin, guest.extent, at);
+            if page < 4294967296 {
+                let backed = (page / 2) as u32;
+                let host = page % 2 == 1;
+                return settle(
+                    keys,
+                    guest,
+                    psw,
+                    control,
+                    store,
+                    protected,
+                    at,
+                    backed,
+                    host,
+                );
+            }
+            Place::Denied(storage::unpacked_failure(guest.origin, at, page))
         }
         Walk::Failed(f) => Place::Denied(f),
     }

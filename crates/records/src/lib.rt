@@ -186,7 +186,10 @@ fn reserved_verdict(r: &[u8]) -> Verdict
     if r.len() != RECORD {
         return Verdict::Accepted;
     }
-    if words::word_at(r, 66) as u64 + words::half_at(r, 70) as u64 != 0 {
+    if words::word_at(r, 66) != 0 {
+        return Verdict::Refused(RESERVED_USED);
+    }
+    if words::half_at(r, 70) != 0 {
         return Verdict::Refused(RESERVED_USED);
     }
     Verdict::Accepted
@@ -209,15 +212,33 @@ pub fn check_verdict(r: &[u8]) -> Verdict
     first_refusal(head_verdict(r), reserved_verdict(r))
 }
 
+// The verdict of storage and keys, then refusals 7 and 8, looked for only where that one accepts.
+fn after_storage(r: &[u8], kind: u32, v: Verdict) -> Verdict
+    requires { ⌜ length (now r) ≡ 200 ⌝ }
+    ensures { λ x. ⌜ x ≡ firstRefusal v (firstRefusal (reservedVerdict (now (r .entry))) (accessVerdict kind)) ⌝ }
+{
+    match v {
+        Verdict::Accepted => first_refusal(reserved_verdict(r), access_verdict(kind)),
+        Verdict::Refused(number) => Verdict::Refused(number),
+    }
+}
+
+// The verdict of the record's head, then the other refusals, looked for only where that one accepts.
+fn after_head(r: &[u8], storage: &[u8], keys: &[u8], kind: u32, v: Verdict) -> Verdict
+    requires { ⌜ v ≡ headVerdict (now r) ⌝ }
+    ensures { λ x. ⌜ x ≡ translateVerdict (now (r .entry)) (now (storage .entry)) (now (keys .entry)) kind ⌝ }
+{
+    match v {
+        Verdict::Accepted => after_storage(r, kind, storage_verdict(storage, keys)),
+        Verdict::Refused(number) => Verdict::Refused(number),
+    }
+}
+
 // The verdict on the input of translate.
 pub fn translate_verdict(r: &[u8], storage: &[u8], keys: &[u8], kind: u32) -> Verdict
     ensures { λ v. ⌜ v ≡ translateVerdict (now (r .entry)) (now (storage .entry)) (now (keys .entry)) kind ⌝ }
 {
-    let later = first_refusal(reserved_verdict(r), access_verdict(kind));
-    first_refusal(
-        head_verdict(r),
-        first_refusal(storage_verdict(storage, keys), later),
-    )
+    after_head(r, storage, keys, kind, head_verdict(r))
 }
 
 // The verdict on the input of run.

@@ -2,10 +2,10 @@
 -- Assumes nothing.
 use Prim.Native.Nat.{ℕ, _+_, _*_, _/_, _%_, _^_, _≤_, _<_}
 use native.Mathlib.Omega.{arith}
-use mathlib.Core.Path.{_≡_, refl, sym, subst}
+use mathlib.Core.Path.{_≡_, refl, sym, ap, subst, _∙_}
 use mathlib.Core.Bool.{Bool, true, false, cond}
 use mathlib.Core.List.{List, []}
-use lib.Dec.{leb, ltb}
+use lib.Dec.{eqb, leb, ltb}
 use lib.ListN.{length}
 use borrow.Author.Tests.{lt-ltb, le-ltb, ltb-true, eq-eqb, ne-eqb}
 use Rattle.machine.specs.declared.Failure.{Failure}
@@ -19,8 +19,9 @@ use Rattle.machine.specs.Entry.{extentBytes}
 use Rattle.machine.specs.Failures.{addressing, hostFault, exceptionOf}
 use Rattle.machine.specs.Walk.{pageIndex, segmentIndex, pastSegmentTable, segmentInvalid, segmentMalformed, pastPageTable, pageInvalid, pageMalformed, walkPage}
 use Rattle.machine.specs.Host.{host, hostVirtual, hostEntry, inStorage, hostPage, backing}
+use Rattle.machine.proofs.Pages.{backing-in-storage}
 use Rattle.storage.specs.Entered.{Entered}
-use Rattle.storage.specs.Packed.{packedWalk, unpackedWalk}
+use Rattle.storage.specs.Packed.{flag, packedWalk, unpackedWalk, Within}
 use Rattle.storage.specs.Steps.{readThrough, tableLeads, segmentLeads}
 use Rattle.storage.proofs.Steps.{walk-in-steps}
 
@@ -116,3 +117,41 @@ unpacked-backing g d s a entered = by-test (ltb a (extentBytes g)) refl
         ≡ cond b (hostPage (host d s []) (hostVirtual g a)) (Failed (exceptionOf addressing))
     by-test true e = let below : a < extentBytes g = ltb-true _ _ e in unpacked-page g a _ (omega arith) (own-host-page s d (hostVirtual g a))
     by-test false e = refl
+
+-- The number, taken apart: the host page behind the address, or its failure.
+module _ (g : Guest) (d : ℕ) (s : List ℕ) (a w : ℕ) (entered : Entered g) (behind : w ≡ packedWalk (backing g (host d s []) a)) where
+  pub backing-unpacked : backing g (host d s []) a ≡ unpackedWalk g a w
+  backing-unpacked = rw behind (sym (unpacked-backing g d s a entered))
+
+  pub backing-page : w < 2 ^ 32 → backing g (host d s []) a ≡ Page (w / 2) (eqb (w % 2) 1)
+  unfolding unpackedWalk
+  backing-page low = backing-unpacked ∙ rw (lt-ltb _ _ low)
+
+-- a host page behind an address lies in the storage
+pub within-backing : (g : Guest) (d : ℕ) (s : List ℕ) (a : ℕ) → Within s (backing g (host d s []) a)
+within-backing g d s a = by-walk (backing g (host d s []) a) refl
+  where
+    by-walk : (w : Walk) → backing g (host d s []) a ≡ w → Within s w
+    by-walk (Failed f) e = tt
+    by-walk (Page frame protected) e = backing-in-storage g (host d s []) a e
+
+-- some guest of an origin and an extent
+abbrev pub guest-at : ℕ → ℕ → Guest
+guest-at origin extent = record {
+  interventions = 0;
+  mode = 0;
+  interceptions = 0;
+  lctl = 0;
+  prefix = 0;
+  origin = origin;
+  extent = extent;
+  comparator = 0;
+  epoch = 0;
+  svc = 0;
+  svc1 = 0;
+  svc2 = 0;
+  svc3 = 0;
+}
+
+pub never : {R : Type 0} {b : Bool} → b ≡ false → b ≡ true → R
+never isnt is = let z : _≡_ {A = ℕ} 0 1 = ap flag (sym isnt ∙ is) in absurd (omega arith)

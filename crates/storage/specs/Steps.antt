@@ -1,10 +1,13 @@
 -- The walk in steps that guest and host share: each step takes an address or an entry, or hands a failure on.
-use Prim.Native.Nat.{ℕ}
+use Prim.Native.Nat.{ℕ, _+_}
 use mathlib.Core.Bool.{Bool, true, false, cond}
+use mathlib.Core.List.{List}
+use lib.Dec.{leb}
+use lib.ListN.{length}
 use Rattle.machine.specs.declared.Failure.{Failure}
 use Rattle.machine.specs.declared.TableEntry.{TableEntry}
 use Rattle.machine.specs.declared.TableEntry.the-variants.{Word, Unread}
-use Rattle.machine.specs.Failures.{segmentTranslation, pageTranslation, translationSpecification, hostFault, walkException}
+use Rattle.machine.specs.Failures.{addressing, segmentTranslation, pageTranslation, translationSpecification, hostFault, walkException}
 use Rattle.machine.specs.Walk.{segmentIndex, segmentEntryAt, pastSegmentTable, segmentInvalid, segmentMalformed, pageEntryAt, pastPageTable}
 
 -- a failure of the walk for an address, of the host's tables or of the guest's
@@ -30,3 +33,11 @@ segmentLeads fail index (Word e) =
     cond (segmentInvalid e) (Unread (fail segmentTranslation))
     (cond (segmentMalformed e) (Unread (fail translationSpecification))
     (cond (pastPageTable e index) (Unread (fail pageTranslation)) (Word (pageEntryAt e index))))
+
+-- a word at this address lies in the storage
+abbrev pub inside : List ℕ → ℕ → Bool
+inside storage at = leb (at + 4) (length storage)
+
+-- the host table entry at an address, for the host virtual address `a`, by a number that is its word where it lies in the storage
+abbrev pub heldEntry : List ℕ → ℕ → ℕ → ℕ → TableEntry
+heldEntry storage a at word = cond (inside storage at) (Word word) (Unread (hostFault a addressing))

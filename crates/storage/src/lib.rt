@@ -1,13 +1,16 @@
 // The steps of a table walk that guest and host share, and the host's side of an address: the host page of a host virtual address
 // and the host page behind a guest absolute one. Each contract equates with machine's Walk and Host; keys play no part.
 ghost use mathlib.Core.Path.{_≡_};
+ghost use mathlib.Core.Bool.{true, cond};
 ghost use mathlib.Core.List.{[]};
-ghost use Prim.Native.Nat.{_+_, _≤_};
+ghost use Prim.Native.Nat.{_+_, _%_, _≤_};
+ghost use Rattle.machine.specs.Words.{wordAt};
+ghost use Rattle.machine.specs.Failures.{addressing, hostFault};
 ghost use Rattle.machine.specs.Walk.{pageIndex, walkPage};
 ghost use Rattle.machine.specs.Host.{host, hostEntry, inStorage, hostPage, backing};
 ghost use Rattle.machine.specs.declared.Guest.{Guest};
-ghost use Rattle.storage.specs.Packed.{packedWalk, unpackedWalk};
-ghost use Rattle.storage.specs.Steps.{failing, readThrough, tableLeads, segmentLeads};
+ghost use Rattle.storage.specs.Packed.{packedWalk, unpackedWalk, packedEntry, Within, Low};
+ghost use Rattle.storage.specs.Steps.{failing, readThrough, tableLeads, segmentLeads, inside, heldEntry};
 use machine::Failure;
 use machine::TableEntry;
 use machine::Walk;
@@ -120,12 +123,51 @@ pub fn page_of(host: bool, a: u32, e: TableEntry) -> Walk
     }
 }
 
-// The host table entry at a host absolute address, for a host virtual address.
-fn entry_at(storage: &[u8], a: u32, at: u32) -> TableEntry
-    ensures { λ r. ⌜ r ≡ hostEntry (now (storage .entry)) a at ⌝ }
+// The word at a host absolute address; beyond the storage, another number.
+fn word_or(storage: &[u8], at: u32, other: u32) -> u32
+    ensures { λ r. ⌜ r ≡ cond (inside (now (storage .entry)) at) (wordAt (now (storage .entry)) at) other ⌝ }
 {
     if at as usize + 4 <= storage.len() {
-        return TableEntry::Word(words::word_at(storage, at as usize));
+        return words::word_at(storage, at as usize);
+    }
+    other
+}
+
+// The fault of a host virtual address by its entry at a host absolute one: beyond the storage it is fault 5.
+fn host_failure(storage: &[u8], a: u32, at: u32, code: u32) -> Failure
+    ensures { λ r. ⌜ r ≡ cond (inside (now (storage .entry)) at) (hostFault a code) (hostFault a addressing) ⌝ }
+{
+    if at as usize + 4 <= storage.len() {
+        return Failure {
+            host: true,
+            code,
+            address: a,
+        };
+    }
+    Failure {
+        host: true,
+        code: ADDRESSING,
+        address: a,
+    }
+}
+
+// Where the host page entry of a host virtual address stands, by its segment entry at a host absolute address. Whether that is in
+// the storage is tested last, and the word is any number where it is not: the compiler then has one load for the word's four bytes.
+fn host_segment(storage: &[u8], a: u32, at: u32, word: u32) -> TableEntry
+    ensures { λ r. ⌜ r ≡ segmentLeads (hostFault a) (pageIndex a) (heldEntry (now (storage .entry)) a at word) ⌝ }
+{
+    let index = a / 4096 % 256;
+    if word / 32 % 2 == 1 {
+        return TableEntry::Unread(host_failure(storage, a, at, SEGMENT_TRANSLATION));
+    }
+    if word / 2147483648 % 2 == 1 {
+        return TableEntry::Unread(host_failure(storage, a, at, TRANSLATION_SPECIFICATION));
+    }
+    if word % 16 < index / 16 {
+        return TableEntry::Unread(host_failure(storage, a, at, PAGE_TRANSLATION));
+    }
+    if at as usize + 4 <= storage.len() {
+        return TableEntry::Word(word / 64 % 33554432 * 64 + index * 4);
     }
     TableEntry::Unread(Failure {
         host: true,
@@ -134,13 +176,52 @@ fn entry_at(storage: &[u8], a: u32, at: u32) -> TableEntry
     })
 }
 
-// The host table entry at the address that a step led to.
-fn read_through(storage: &[u8], a: u32, e: TableEntry) -> TableEntry
-    ensures { λ r. ⌜ r ≡ readThrough (hostEntry (now (storage .entry)) a) e ⌝ }
+// The page of a host page entry at a host absolute address, tested in the same order.
+fn host_entry_page(storage: &[u8], a: u32, at: u32, word: u32) -> Walk
+    ensures { λ r. ⌜ r ≡ walkPage (hostFault a) (heldEntry (now (storage .entry)) a at word) ⌝ }
+{
+    if word / 1024 % 2 == 1 {
+        return Walk::Failed(host_failure(storage, a, at, PAGE_TRANSLATION));
+    }
+    if word / 2147483648 % 2 == 1 {
+        return Walk::Failed(host_failure(storage, a, at, TRANSLATION_SPECIFICATION));
+    }
+    if word / 2048 % 2 == 1 {
+        return Walk::Failed(host_failure(storage, a, at, TRANSLATION_SPECIFICATION));
+    }
+    if word / 256 % 2 == 1 {
+        return Walk::Failed(host_failure(storage, a, at, TRANSLATION_SPECIFICATION));
+    }
+    if at as usize + 4 <= storage.len() {
+        return Walk::Page {
+            frame: word / 4096 % 524288,
+            protected: word / 512 % 2 == 1,
+        };
+    }
+    Walk::Failed(Failure {
+        host: true,
+        code: ADDRESSING,
+        address: a,
+    })
+}
+
+// Where the host page entry of a host virtual address stands, by where its segment entry stands.
+fn through_segment(storage: &[u8], a: u32, e: TableEntry) -> TableEntry
+    ensures { λ r. ⌜ r ≡ segmentLeads (hostFault a) (pageIndex a) (readThrough (hostEntry (now (storage .entry)) a) e) ⌝ }
 {
     match e {
-        TableEntry::Word(at) => entry_at(storage, a, at),
+        TableEntry::Word(at) => host_segment(storage, a, at, word_or(storage, at, a)),
         TableEntry::Unread(f) => TableEntry::Unread(f),
+    }
+}
+
+// The host page of a host virtual address, by where its page entry stands.
+fn through_page(storage: &[u8], a: u32, e: TableEntry) -> Walk
+    ensures { λ r. ⌜ r ≡ walkPage (hostFault a) (readThrough (hostEntry (now (storage .entry)) a) e) ⌝ }
+{
+    match e {
+        TableEntry::Word(at) => host_entry_page(storage, a, at, word_or(storage, at, a)),
+        TableEntry::Unread(f) => Walk::Failed(f),
     }
 }
 
@@ -168,9 +249,8 @@ fn in_storage(storage: &[u8], a: u32, w: Walk) -> Walk
 pub fn host_page(storage: &[u8], designation: u32, a: u32) -> Walk
     ensures { λ r. ⌜ r ≡ hostPage (host designation (now (storage .entry)) []) a ⌝ }
 {
-    let segment = read_through(storage, a, table_leads(true, designation, a));
-    let page = read_through(storage, a, segment_leads(true, a, segment));
-    in_storage(storage, a, page_of(true, a, page))
+    let page = through_segment(storage, a, table_leads(true, designation, a));
+    in_storage(storage, a, through_page(storage, a, page))
 }
 
 // The host page behind a guest absolute address, for every guest of this origin and extent.
@@ -212,12 +292,71 @@ fn pack_walk(w: Walk) -> u64
     }
 }
 
+// A host page as one number, or the guest table entry at a guest absolute address in it.
+fn pack_look(storage: &[u8], a: u32, read: bool, w: Walk) -> u64
+    requires { ⌜ (read ≡ true → a % 4 ≡ 0) × Within (now storage) w ⌝ }
+    ensures { λ r. ⌜ (r ≡ cond read (packedEntry (now (storage .entry)) a w) (packedWalk w)) × (read ≡ true → Low r w) ⌝ }
+{
+    match w {
+        Walk::Page { frame, protected } => {
+            if read {
+                let at = frame as usize * 4096 + a as usize % 4096;
+                return words::word_at(storage, at) as u64;
+            }
+            pack_walk(Walk::Page { frame, protected })
+        }
+        Walk::Failed(f) => pack_walk(Walk::Failed(f)),
+    }
+}
+
+// The two below: one function, so that the compiler keeps it as one and has the entry's word in a register.
+fn look(storage: &[u8], designation: u32, origin: u16, extent: u16, a: u32, read: bool) -> u64
+    requires { ⌜ (origin + extent ≤ 32768) × (read ≡ true → a % 4 ≡ 0) ⌝ }
+    ensures { λ r. ⌜ ((g : Guest) → g .origin ≡ origin → g .extent ≡ extent
+        → (r ≡ cond read (packedEntry (now (storage .entry)) a (backing g (host designation (now (storage .entry)) []) a))
+        (packedWalk (backing g (host designation (now (storage .entry)) []) a)))
+        × (read ≡ true → Low r (backing g (host designation (now (storage .entry)) []) a))) ⌝ }
+{
+    let w = backing(storage, designation, origin, extent, a);
+    pack_look(storage, a, read, w)
+}
+
 // The host page behind a guest absolute address, as one number, for every guest of this origin and extent.
 pub fn behind(storage: &[u8], designation: u32, origin: u16, extent: u16, a: u32) -> u64
     requires { ⌜ origin + extent ≤ 32768 ⌝ }
     ensures { λ r. ⌜ ((g : Guest) → g .origin ≡ origin → g .extent ≡ extent → r ≡ packedWalk (backing g (host designation (now (storage .entry)) []) a)) ⌝ }
 {
-    pack_walk(backing(storage, designation, origin, extent, a))
+    look(storage, designation, origin, extent, a, false)
+}
+
+// The guest table entry at a guest absolute address, as one number, for every guest of this origin and extent.
+pub fn entry_behind(storage: &[u8], designation: u32, origin: u16, extent: u16, a: u32) -> u64
+    requires { ⌜ (origin + extent ≤ 32768) × (a % 4 ≡ 0) ⌝ }
+    ensures { λ r. ⌜ ((g : Guest) → g .origin ≡ origin → g .extent ≡ extent
+        → (r ≡ packedEntry (now (storage .entry)) a (backing g (host designation (now (storage .entry)) []) a))
+        × Low r (backing g (host designation (now (storage .entry)) []) a)) ⌝ }
+{
+    look(storage, designation, origin, extent, a, true)
+}
+
+// The failure that such a number says of a guest absolute address, for every guest of this origin.
+pub fn unpacked_failure(origin: u16, a: u32, w: u64) -> Failure
+    requires { ⌜ 4294967296 ≤ w ⌝ }
+    ensures { λ r. ⌜ ((g : Guest) → g .origin ≡ origin → Walk.Failed r ≡ unpackedWalk g a w) ⌝ }
+{
+    let code = (w % 4294967296 / 2) as u32;
+    if w % 2 == 1 {
+        return Failure {
+            host: true,
+            code,
+            address: ((origin as u64 * 65536 + a as u64) % 4294967296) as u32,
+        };
+    }
+    Failure {
+        host: false,
+        code,
+        address: 0,
+    }
 }
 
 // What such a number says of a guest absolute address, for every guest of this origin.
@@ -230,17 +369,5 @@ pub fn unpacked(origin: u16, a: u32, w: u64) -> Walk
             protected: w % 2 == 1,
         };
     }
-    let code = (w % 4294967296 / 2) as u32;
-    if w % 2 == 1 {
-        return Walk::Failed(Failure {
-            host: true,
-            code,
-            address: ((origin as u64 * 65536 + a as u64) % 4294967296) as u32,
-        });
-    }
-    Walk::Failed(Failure {
-        host: false,
-        code,
-        address: 0,
-    })
+    Walk::Failed(unpacked_failure(origin, a, w))
 }

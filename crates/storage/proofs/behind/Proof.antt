@@ -1,17 +1,16 @@
 -- `storage::behind` meets its contract.
 -- Assumes nothing.
-use borrow.Author.Needs.{needs}
+use mathlib.Core.Path.{refl}
+use mathlib.Core.Bool.{false}
+use Rattle.storage.proofs.Packed.{never}
 use Rattle.storage.proofs.behind.Statement.{statement}
 use Rattle.storage.proofs.behind.Tie as tie
 
-backing-requires : tie.Need-backing-requires
-backing-requires c κs = search needs
-
-pack-walk-requires : tie.Need-pack-walk-requires
-pack-walk-requires c κs = search needs
+look-requires : tie.Need-look-requires
+look-requires c κs = (c .before .pre, λ yes. never {b = false} refl yes)
 
 returns : tie.Need-returns
-returns c = λ g own full. rw (c .pack-walk .ensures, c .before .backing .ensures g own full)
+returns c = λ g own full. c .look .ensures g own full .0
 
 pub behind-spec : {M : Type 1} → statement M
-behind-spec = tie.close (tie.spec backing-requires pack-walk-requires returns)
+behind-spec = tie.close (tie.spec look-requires returns)
