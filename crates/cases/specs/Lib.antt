@@ -1,0 +1,3 @@
+pub mod CaseFile
+pub mod Line
+pub mod Examples

@@ -1,0 +1,269 @@
+// Case files: the parser, the run of a case and the line that it prints, for the program `case`. A file is any slice. Each contract
+// equates with the definitions of specs/CaseFile and specs/Line; the run is drevokas_run, on copies of the file's parts.
+ghost use mathlib.Core.Path.{_≡_};
+ghost use mathlib.Core.Bool.{true};
+ghost use Prim.Native.Nat.{_+_, _*_, _≤_, _<_};
+ghost use mathlib.Core.List.{_++_, _∷_, []};
+ghost use lib.ListN.{length, take};
+ghost use Rattle.io.specs.Counts.{Counts};
+ghost use Rattle.drevokas.specs.Packing.{packedAnswer};
+ghost use Rattle.cases.specs.CaseFile.{countOf, numbersOf, recordOf, keysOf, framesOf, wellFormed, caseOf, answerOf};
+ghost use Rattle.cases.specs.Line.{decimal, lineBytes, refusalLine, endLine, lineOf, packedLine};
+use machine::Numbers;
+
+const VERSION: usize = 4;
+
+const DESIGNATION: usize = 5;
+
+const CLOCK: usize = 9;
+
+const TIME: usize = 17;
+
+const BUDGET: usize = 21;
+
+const RECORD: usize = 23;
+
+const COUNT: usize = 223;
+
+const KEYS: usize = 224;
+
+const FRAME: usize = 4096;
+
+const MOST_FRAMES: usize = 8;
+
+const MOST_BYTES: usize = 32768;
+
+const RECORD_BYTES: usize = 200;
+
+// Room for every line.
+pub const LINE: usize = 64;
+
+const DIGITS: usize = 20;
+
+const INTERCEPTED: u64 = 1;
+
+const HOST_FAULT: u64 = 2;
+
+const BUDGET_USED: u64 = 3;
+
+// Refusal 9, packed.
+const MALFORMED: u64 = 2533274790395904;
+
+// What a parser finds: the numbers and the frame count of a well-formed file.
+pub enum Case {
+    Malformed,
+    Good { numbers: Numbers, count: usize },
+}
+
+// A file is not malformed.
+fn well_formed(file: &[u8]) -> bool
+    ensures { λ r. ⌜ r ≡ wellFormed (now (file .entry)) ⌝ }
+{
+    if file.len() < KEYS {
+        return false;
+    }
+    let total = 4 + words::word_at(file, 0) as usize;
+    if total != file.len() {
+        return false;
+    }
+    let count = file[COUNT] as usize;
+    if total != KEYS + count + count * FRAME {
+        return false;
+    }
+    if file[VERSION] != 1 {
+        return false;
+    }
+    if count < 1 {
+        return false;
+    }
+    count <= MOST_FRAMES
+}
+
+// The numbers of a case file.
+fn numbers_of(file: &[u8]) -> Numbers
+    requires { ⌜ 23 ≤ length (now file) ⌝ }
+    ensures { λ r. ⌜ r ≡ numbersOf (now (file .entry)) ⌝ }
+{
+    Numbers {
+        designation: words::word_at(file, DESIGNATION),
+        clock: words::double_at(file, CLOCK),
+        time: words::word_at(file, TIME),
+        budget: words::half_at(file, BUDGET),
+    }
+}
+
+// Parses a case file.
+pub fn parse(file: &[u8]) -> Case
+    ensures { λ r. ⌜ r ≡ caseOf (now (file .entry)) ⌝ }
+{
+    if well_formed(file) {
+        return Case::Good {
+            numbers: numbers_of(file),
+            count: file[COUNT] as usize,
+        };
+    }
+    Case::Malformed
+}
+
+// The record of a case file.
+fn record_of(file: &[u8]) -> [u8; RECORD_BYTES]
+    requires { ⌜ wellFormed (now file) ≡ true ⌝ }
+    ensures { λ r. ⌜ r ≡ recordOf (now (file .entry)) ⌝ }
+{
+    let mut part = [0; RECORD_BYTES];
+    bytes::copy(&file[RECORD..COUNT], &mut part);
+    part
+}
+
+// The keys of a case file, at the start.
+fn keys_of(file: &[u8], count: usize) -> [u8; MOST_FRAMES]
+    requires { ⌜ wellFormed (now file) ≡ true ⌝ }
+    requires { ⌜ count ≡ countOf (now file) ⌝ }
+    ensures { λ r. ⌜ (length r ≡ 8) × (take count r ≡ keysOf (now (file .entry))) ⌝ }
+{
+    let mut part = [0; MOST_FRAMES];
+    let end = KEYS + count;
+    bytes::copy(&file[KEYS..end], &mut part);
+    part
+}
+
+// Room for the most frames. The contract gives the length alone, so that no proof spells the zeros out.
+fn room() -> [u8; MOST_BYTES]
+    ensures { λ r. ⌜ 32768 ≡ length r ⌝ }
+{
+    [0; MOST_BYTES]
+}
+
+// The frames of a case file, at the start.
+fn frames_of(file: &[u8], count: usize) -> [u8; MOST_BYTES]
+    requires { ⌜ wellFormed (now file) ≡ true ⌝ }
+    requires { ⌜ count ≡ countOf (now file) ⌝ }
+    ensures { λ r. ⌜ (length r ≡ 32768) × (take (count * 4096) r ≡ framesOf (now (file .entry))) ⌝ }
+{
+    let mut part = room();
+    let at = KEYS + count;
+    bytes::copy(&file[at..], &mut part);
+    part
+}
+
+// The run of a well-formed case file.
+fn run_parts(file: &[u8], n: Numbers, count: usize) -> u64
+    requires { ⌜ caseOf (now file) ≡ Case.Good n count ⌝ }
+    ensures { λ r. ⌜ r ≡ packedAnswer (answerOf (now (file .entry))) ⌝ }
+{
+    let mut record = record_of(file);
+    let mut keys = keys_of(file, count);
+    let mut frames = frames_of(file, count);
+    let used = count * FRAME;
+    let mut place = 0;
+    drevokas::drevokas_run(
+        &mut record,
+        &mut frames[..used],
+        &mut keys[..count],
+        n.designation,
+        n.clock,
+        n.time,
+        n.budget,
+        &mut place,
+    )
+}
+
+// The answer, once the file is parsed.
+fn answer_as(file: &[u8], c: Case) -> u64
+    requires { ⌜ c ≡ caseOf (now file) ⌝ }
+    ensures { λ r. ⌜ r ≡ packedAnswer (answerOf (now (file .entry))) ⌝ }
+{
+    match c {
+        Case::Malformed => MALFORMED,
+        Case::Good { numbers, count } => run_parts(file, numbers, count),
+    }
+}
+
+// Runs a case file: the packed answer of run, or refusal 9.
+pub fn run_case(file: &[u8]) -> u64
+    ensures { λ r. ⌜ r ≡ packedAnswer (answerOf (now (file .entry))) ⌝ }
+{
+    answer_as(file, parse(file))
+}
+
+// One byte of a line. Like those below, it answers where the line goes on.
+fn put_byte(line: &mut [u8], at: usize, byte: u8) -> usize
+    requires { ⌜ at < length (now line) ⌝ }
+    ensures { λ r. ⌜ (r ≡ at + 1) × (take r (now (line .exit)) ≡ take at (now (line .entry)) ++ byte ∷ []) ⌝ }
+{
+    line[at] = byte;
+    at + 1
+}
+
+// A text of a line.
+fn put_text(line: &mut [u8], at: usize, text: &[u8])
+    requires { ⌜ at + length (now text) ≤ length (now line) ⌝ }
+    ensures { λ _. ⌜ take (at + length (now (text .entry))) (now (line .exit)) ≡ take at (now (line .entry)) ++ now (text .entry) ⌝ }
+{
+    bytes::copy(text, &mut line[at..]);
+}
+
+// A number of a line.
+fn put_decimal(line: &mut [u8], at: usize, n: u64) -> usize
+    requires { ⌜ at + 20 ≤ length (now line) ⌝ }
+    ensures { λ r. ⌜ (r ≤ at + 20) × (take r (now (line .exit)) ≡ take at (now (line .entry)) ++ decimal n) ⌝ }
+{
+    let mut text = [0; DIGITS];
+    let count = io::decimal(n, &mut text);
+    put_text(line, at, &text[..count]);
+    at + count
+}
+
+// The line of a refusal.
+fn put_refusal(line: &mut [u8], number: u64) -> usize
+    requires { ⌜ lineBytes ≤ length (now line) ⌝ }
+    ensures { λ r. ⌜ (r ≤ lineBytes) × (take r (now (line .exit)) ≡ refusalLine number) ⌝ }
+{
+    let at = put_byte(line, 0, b'R');
+    let at = put_byte(line, at, b' ');
+    let at = put_decimal(line, at, number);
+    put_byte(line, at, b'\n')
+}
+
+// The line of an end.
+fn put_end(line: &mut [u8], letter: u8, number: u64, units: u64) -> usize
+    requires { ⌜ lineBytes ≤ length (now line) ⌝ }
+    ensures { λ r. ⌜ (r ≤ lineBytes) × (take r (now (line .exit)) ≡ endLine letter number units) ⌝ }
+{
+    let at = put_byte(line, 0, letter);
+    let at = put_byte(line, at, b' ');
+    let at = put_decimal(line, at, number);
+    let at = put_byte(line, at, b' ');
+    let at = put_decimal(line, at, units);
+    put_byte(line, at, b'\n')
+}
+
+// Puts the line of a packed answer of run at the start of `line`, and answers how long it is.
+pub fn put_line(line: &mut [u8], answer: u64) -> usize
+    requires { ⌜ lineBytes ≤ length (now line) ⌝ }
+    ensures { λ r. ⌜ Counts r (now (line .exit)) ⌝ }
+    ensures { λ r. ⌜ take r (now (line .exit)) ≡ packedLine answer ⌝ }
+{
+    let kind = answer / 72057594037927936;
+    let number = answer / 281474976710656 % 256;
+    let units = answer % 4294967296;
+    if kind == INTERCEPTED {
+        return put_end(line, b'I', number, units);
+    }
+    if kind == HOST_FAULT {
+        return put_end(line, b'H', number, units);
+    }
+    if kind == BUDGET_USED {
+        return put_end(line, b'B', number, units);
+    }
+    put_refusal(line, number)
+}
+
+// Runs a case file, puts the line that it prints at the start of `line`, and answers how long it is.
+pub fn case_line(file: &[u8], line: &mut [u8]) -> usize
+    requires { ⌜ lineBytes ≤ length (now line) ⌝ }
+    ensures { λ r. ⌜ Counts r (now (line .exit)) ⌝ }
+    ensures { λ r. ⌜ take r (now (line .exit)) ≡ lineOf (answerOf (now (file .entry))) ⌝ }
+{
+    put_line(line, run_case(file))
+}

@@ -1,0 +1,11 @@
+#!/bin/sh
+# Builds the tests against the static library and runs them: worked examples, library against model, isolation, resumption.
+set -eu
+cd "$(dirname "$0")"
+CARGO_TARGET_DIR=../../target/rust
+export CARGO_TARGET_DIR
+cargo test --release --offline --quiet
+cargo build --release --offline --quiet
+for program in compare isolation resume; do
+    "$CARGO_TARGET_DIR/release/$program"
+done

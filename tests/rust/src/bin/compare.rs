@@ -1,0 +1,145 @@
+//! compare [CASES] [SEED]: check, translate and run of the library against the model, on random cases.
+
+use drevokas_tests::generate::{self, Case, Rng, Wishes};
+use drevokas_tests::report::{self, Tally};
+use drevokas_tests::{ffi, model};
+use std::process::exit;
+use std::time::Instant;
+
+const TRANSLATIONS: u32 = 4;
+
+/// Bytes with a margin on both sides, to find a store outside.
+struct Guarded {
+    bytes: Vec<u8>,
+    length: usize,
+}
+
+const MARGIN: usize = 64;
+const MARGIN_BYTE: u8 = 0xA7;
+
+impl Guarded {
+    fn new(content: &[u8]) -> Guarded {
+        let mut bytes = Vec::with_capacity(content.len() + 2 * MARGIN);
+        bytes.resize(MARGIN, MARGIN_BYTE);
+        bytes.extend_from_slice(content);
+        bytes.resize(content.len() + 2 * MARGIN, MARGIN_BYTE);
+        Guarded { bytes, length: content.len() }
+    }
+
+    fn content(&mut self) -> &mut [u8] {
+        &mut self.bytes[MARGIN..MARGIN + self.length]
+    }
+
+    fn margins_stand(&self) -> bool {
+        self.bytes[..MARGIN].iter().chain(&self.bytes[MARGIN + self.length..]).all(|&byte| byte == MARGIN_BYTE)
+    }
+}
+
+fn main() {
+    let (cases, seed) = report::arguments(200_000);
+    println!("compare: {cases} cases, seed {seed}");
+    let start = Instant::now();
+    let mut tally = Tally::default();
+    let wishes = Wishes { damage: true, large_extents: true };
+    for number in 0..cases {
+        let mut rng = Rng::new(seed, number);
+        let case = generate::case(&mut rng, wishes);
+        if !compare(&mut rng, &case, &mut tally) {
+            println!("difference in case {number} of seed {seed}");
+            report::keep_case(&case, "difference.case");
+            exit(1);
+        }
+    }
+    let seconds = start.elapsed().as_secs_f64();
+    tally.print();
+    println!("{:.1} seconds, {:.0} cases a second", seconds, cases as f64 / seconds);
+    let missing = tally.missing();
+    for name in &missing {
+        println!("never occurred: {name}");
+    }
+    if !missing.is_empty() {
+        exit(1);
+    }
+    println!("compare: no difference");
+}
+
+/// Whether library and model agree on the case.
+fn compare(rng: &mut Rng, case: &Case, tally: &mut Tally) -> bool {
+    let mut record = Guarded::new(&case.record);
+    let mut storage = Guarded::new(&case.storage);
+    let mut keys = Guarded::new(&case.keys);
+
+    let owed = model::check(&case.record);
+    tally.check(owed);
+    let owed = ffi::pack(owed, 0).word;
+    let given = ffi::check(record.content());
+    if given != owed {
+        println!("check: library {given:016x}, model {owed:016x}");
+        return false;
+    }
+
+    for _ in 0..TRANSLATIONS {
+        let (address, access) = generate::translation(rng, case);
+        let owed =
+            model::translate(&case.record, &case.storage, &case.keys, case.designation, address, access);
+        tally.translation(owed);
+        let owed = ffi::pack(owed, 0);
+        let given = ffi::translate(
+            record.content(),
+            storage.content(),
+            keys.content(),
+            case.designation,
+            address,
+            access,
+        );
+        if given != owed {
+            println!("translate of {address:08x} hex, access kind {access}");
+            println!("{}", report::show_answer("  library", given));
+            println!("{}", report::show_answer("  model  ", owed));
+            return false;
+        }
+    }
+    if record.content() != case.record {
+        println!("check or translate changed the record");
+        return false;
+    }
+
+    let mut model_record = case.record.clone();
+    let mut model_storage = case.storage.clone();
+    let mut model_keys = case.keys.clone();
+    let end = model::run(
+        &mut model_record,
+        &mut model_storage,
+        &mut model_keys,
+        case.designation,
+        case.clock,
+        case.time,
+        case.budget,
+    );
+    let owed = ffi::pack(end.answer, end.units);
+    tally.run(owed, &model_record, &end.interruptions);
+    let given = ffi::run(
+        record.content(),
+        storage.content(),
+        keys.content(),
+        case.designation,
+        case.clock,
+        case.time,
+        case.budget,
+    );
+    let mut differs = false;
+    if given != owed {
+        println!("run:");
+        println!("{}", report::show_answer("  library", given));
+        println!("{}", report::show_answer("  model  ", owed));
+        differs = true;
+    }
+    differs |= report::show_difference("record, library against model", record.content(), &model_record);
+    differs |= report::show_difference("keys, library against model", keys.content(), &model_keys);
+    differs |= report::show_difference("storage, library against model", storage.content(), &model_storage);
+    if !record.margins_stand() || !storage.margins_stand() || !keys.margins_stand() {
+        println!("the library stored outside what it was given");
+        differs = true;
+    }
+    !differs
+}

@@ -1,0 +1,131 @@
+//! The three C functions of drevokas.h, and the unpacking of their answers.
+
+use crate::model::Answer;
+
+extern "C" {
+    fn drevokas_check(record: *const u8, record_len: usize) -> u64;
+
+    fn drevokas_translate(
+        record: *const u8,
+        record_len: usize,
+        storage: *const u8,
+        storage_len: usize,
+        keys: *const u8,
+        keys_len: usize,
+        designation: u32,
+        address: u32,
+        access: u32,
+        location: *mut u64,
+    ) -> u64;
+
+    fn drevokas_run(
+        record: *mut u8,
+        record_len: usize,
+        storage: *mut u8,
+        storage_len: usize,
+        keys: *mut u8,
+        keys_len: usize,
+        designation: u32,
+        clock: u64,
+        time: u32,
+        budget: u32,
+        location: *mut u64,
+    ) -> u64;
+}
+
+/// The kinds of an answer.
+pub const REFUSED: u32 = 0;
+pub const INTERCEPTED: u32 = 1;
+pub const HOST_FAULT: u32 = 2;
+pub const BUDGET_USED: u32 = 3;
+pub const PROGRAM_EXCEPTION: u32 = 4;
+pub const GOOD: u32 = 5;
+
+/// What stands in *where before each call. A refusal must leave it.
+pub const NOT_TOUCHED: u64 = 0x5A5A_0123_4567_A5A5;
+
+/// An answer as the library gave it.
+#[derive(Clone, Copy, PartialEq, Eq, Debug)]
+pub struct Packed {
+    pub word: u64,
+    /// *where after the call.
+    pub location: u64,
+}
+
+impl Packed {
+    pub fn kind(self) -> u32 {
+        (self.word >> 56) as u32
+    }
+
+    pub fn number(self) -> u32 {
+        (self.word >> 48 & 0xFF) as u32
+    }
+
+    pub fn units(self) -> u32 {
+        self.word as u32
+    }
+}
+
+/// The answer that the library owes for an answer of the model.
+pub fn pack(answer: Answer, units: u32) -> Packed {
+    let (kind, number, location) = match answer {
+        Answer::Refused(number) => (REFUSED, number, NOT_TOUCHED),
+        Answer::Intercepted(code) => (INTERCEPTED, code, 0),
+        Answer::HostFault(code, address) => (HOST_FAULT, code, address as u64),
+        Answer::BudgetUsed => (BUDGET_USED, 0, 0),
+        Answer::ProgramException(code) => (PROGRAM_EXCEPTION, code, 0),
+        Answer::Good(address) => (GOOD, 0, address as u64),
+    };
+    Packed { word: (kind as u64) << 56 | (number as u64) << 48 | units as u64, location }
+}
+
+pub fn check(record: &[u8]) -> u64 {
+    unsafe { drevokas_check(record.as_ptr(), record.len()) }
+}
+
+pub fn translate(record: &[u8], storage: &[u8], keys: &[u8], designation: u32, address: u32, access: u32) -> Packed {
+    let mut location = NOT_TOUCHED;
+    let word = unsafe {
+        drevokas_translate(
+            record.as_ptr(),
+            record.len(),
+            storage.as_ptr(),
+            storage.len(),
+            keys.as_ptr(),
+            keys.len(),
+            designation,
+            address,
+            access,
+            &mut location,
+        )
+    };
+    Packed { word, location }
+}
+
+pub fn run(
+    record: &mut [u8],
+    storage: &mut [u8],
+    keys: &mut [u8],
+    designation: u32,
+    clock: u64,
+    time: u32,
+    budget: u32,
+) -> Packed {
+    let mut location = NOT_TOUCHED;
+    let word = unsafe {
+        drevokas_run(
+            record.as_mut_ptr(),
+            record.len(),
+            storage.as_mut_ptr(),
+            storage.len(),
+            keys.as_mut_ptr(),
+            keys.len(),
+            designation,
+            clock,
+            time,
+            budget,
+            &mut location,
+        )
+    };
+    Packed { word, location }
+}

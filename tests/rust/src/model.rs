@@ -1,0 +1,1039 @@
+//! Check, translate and run, written from document 01 alone and byte by byte. The headings cited are its own. Bit 0 is
+//! the leftmost bit. Nothing is kept from one byte to the next, so that each sentence of the rules stands in one place.
+
+/// An answer of check, translate or run.
+#[derive(Clone, Copy, PartialEq, Eq, Debug)]
+pub enum Answer {
+    /// The number of the refusal.
+    Refused(u8),
+    /// The interception code; of check and translate 32 alone.
+    Intercepted(u8),
+    /// Program code and host virtual address.
+    HostFault(u8, u32),
+    /// Of run alone.
+    BudgetUsed,
+    /// Of translate alone: the guest's program code.
+    ProgramException(u8),
+    /// Check: good, with 0. Translate: the host absolute address.
+    Good(u32),
+}
+
+/// The end of a run.
+pub struct Run {
+    pub answer: Answer,
+    pub units: u32,
+    /// The guest interruptions presented, for the tally: the program code, or SVC_INTERRUPTION.
+    pub interruptions: Vec<u8>,
+}
+
+pub const SVC_INTERRUPTION: u8 = 0xFF;
+
+pub const FRAME: usize = 4096;
+
+// Program codes.
+pub const OPERATION: u8 = 0x01;
+pub const PRIVILEGED_OPERATION: u8 = 0x02;
+pub const PROTECTION: u8 = 0x04;
+pub const ADDRESSING: u8 = 0x05;
+pub const SPECIFICATION: u8 = 0x06;
+pub const FIXED_POINT_OVERFLOW: u8 = 0x08;
+pub const SEGMENT_TRANSLATION: u8 = 0x10;
+pub const PAGE_TRANSLATION: u8 = 0x11;
+pub const TRANSLATION_SPECIFICATION: u8 = 0x12;
+
+// "The record, 200 bytes, big-endian"
+const VERSION: usize = 2;
+const INTERVENTION: usize = 3;
+const MODE: usize = 4;
+const INTERCEPTION_CONTROLS: usize = 5;
+const LCTL_CONTROLS: usize = 6;
+const PREFIX: usize = 8;
+const ORIGIN: usize = 12;
+const EXTENT: usize = 14;
+const PSW: usize = 16;
+const TIMER: usize = 24;
+const COMPARATOR: usize = 32;
+const EPOCH: usize = 40;
+const SVC_FLAGS: usize = 48;
+const SVC_NUMBERS: usize = 49;
+const RESULT_CODE: usize = 52;
+const RESULT_ILC: usize = 53;
+const RESULT_INTERRUPTION: usize = 54;
+const RESULT_ADDRESS: usize = 56;
+const RESULT_TEXT: usize = 60;
+const CONTROL_REGISTERS: usize = 72;
+const GENERAL_REGISTERS: usize = 136;
+
+pub fn halfword(bytes: &[u8], at: usize) -> u32 {
+    (bytes[at] as u32) << 8 | bytes[at + 1] as u32
+}
+
+pub fn word(bytes: &[u8], at: usize) -> u32 {
+    halfword(bytes, at) << 16 | halfword(bytes, at + 2)
+}
+
+pub fn doubleword(bytes: &[u8], at: usize) -> u64 {
+    (word(bytes, at) as u64) << 32 | word(bytes, at + 4) as u64
+}
+
+pub fn set_word(bytes: &mut [u8], at: usize, value: u32) {
+    bytes[at..at + 4].copy_from_slice(&value.to_be_bytes());
+}
+
+pub fn set_doubleword(bytes: &mut [u8], at: usize, value: u64) {
+    bytes[at..at + 8].copy_from_slice(&value.to_be_bytes());
+}
+
+fn control_register(record: &[u8], number: usize) -> u32 {
+    word(record, CONTROL_REGISTERS + 4 * number)
+}
+
+fn general_register(record: &[u8], number: usize) -> u32 {
+    word(record, GENERAL_REGISTERS + 4 * number)
+}
+
+fn set_general_register(record: &mut [u8], number: usize, value: u32) {
+    set_word(record, GENERAL_REGISTERS + 4 * number, value);
+}
+
+/// Bit of the PSW, 0 to 63.
+fn psw_bit(record: &[u8], bit: usize) -> bool {
+    record[PSW + bit / 8] & (0x80 >> (bit % 8)) != 0
+}
+
+/// Bit of a word, 0 to 31.
+fn bit(value: u32, number: u32) -> bool {
+    value & (0x8000_0000 >> number) != 0
+}
+
+fn set_condition_code(record: &mut [u8], code: u8) {
+    record[PSW + 2] = record[PSW + 2] & !0x30 | code << 4;
+}
+
+fn condition_code(record: &[u8]) -> u8 {
+    record[PSW + 2] >> 4 & 3
+}
+
+/// "Logical addresses wrap at 2^24 or 2^31 by PSW bit 32."
+fn wrap(record: &[u8], address: u32) -> u32 {
+    if psw_bit(record, 32) {
+        address & 0x7FFF_FFFF
+    } else {
+        address & 0x00FF_FFFF
+    }
+}
+
+fn instruction_address(record: &[u8]) -> u32 {
+    word(record, PSW + 4) & 0x7FFF_FFFF
+}
+
+fn set_instruction_address(record: &mut [u8], address: u32) {
+    let mode = word(record, PSW + 4) & 0x8000_0000;
+    let address = wrap(record, address);
+    set_word(record, PSW + 4, mode | address);
+}
+
+/// Advances the address by the length that the ILC stands for.
+fn advance(record: &mut [u8], ilc: u8) {
+    let address = instruction_address(record);
+    set_instruction_address(record, address.wrapping_add(2 * ilc as u32));
+}
+
+// ---------------------------------------------------------------------------------------------------------------
+// The table of refusals: each operation makes the tests it has the input for, in the order of the numbers.
+
+fn refuse_record(record: &[u8]) -> Option<u8> {
+    if record.len() != 200 || halfword(record, 0) != 200 {
+        return Some(1);
+    }
+    if record[VERSION] != 1 {
+        return Some(2);
+    }
+    None
+}
+
+fn refuse_storage(storage_len: usize, keys_len: usize) -> Option<u8> {
+    if storage_len == 0 || storage_len > 4096 * FRAME || storage_len % FRAME != 0 {
+        return Some(3);
+    }
+    if keys_len != storage_len / FRAME {
+        return Some(4);
+    }
+    None
+}
+
+fn refuse_numbers(budget: u32, time: u32) -> Option<u8> {
+    if budget > 65_535 {
+        return Some(5);
+    }
+    if time > 1_048_576 {
+        return Some(6);
+    }
+    None
+}
+
+fn refuse_reserved(record: &[u8]) -> Option<u8> {
+    if record[66..72].iter().any(|&byte| byte != 0) {
+        return Some(7);
+    }
+    None
+}
+
+/// The refusal of a run, if it is refused.
+pub fn refuse_run(record: &[u8], storage_len: usize, keys_len: usize, budget: u32, time: u32) -> Option<u8> {
+    refuse_record(record)
+        .or_else(|| refuse_storage(storage_len, keys_len))
+        .or_else(|| refuse_numbers(budget, time))
+        .or_else(|| refuse_reserved(record))
+}
+
+// ---------------------------------------------------------------------------------------------------------------
+// "Entry"
+
+/// Whether the entry is good, else code 32.
+pub fn entry_is_good(record: &[u8]) -> bool {
+    // Mode bits 4-5 must be 10, and bit 6 zero.
+    if record[MODE] & 0x0C != 0x08 || record[MODE] & 0x02 != 0 {
+        return false;
+    }
+    let origin = halfword(record, ORIGIN);
+    let extent = halfword(record, EXTENT);
+    if origin > 32_767 || extent == 0 || origin + extent > 32_768 {
+        return false;
+    }
+    prefix(record) as u64 + 4096 <= extent_bytes(record)
+}
+
+/// "prefix (bits 0 and 20-31 ignored)"
+pub fn prefix(record: &[u8]) -> u32 {
+    word(record, PREFIX) & 0x7FFF_F000
+}
+
+/// The host virtual address of the guest's absolute byte 0.
+pub fn origin_bytes(record: &[u8]) -> u32 {
+    halfword(record, ORIGIN) * 65_536
+}
+
+pub fn extent_bytes(record: &[u8]) -> u64 {
+    halfword(record, EXTENT) as u64 * 65_536
+}
+
+// ---------------------------------------------------------------------------------------------------------------
+// "Addresses"
+
+#[derive(Clone, Copy, PartialEq, Eq, Debug)]
+pub enum Access {
+    Fetch,
+    Store,
+}
+
+/// Why an access cannot be made.
+#[derive(Clone, Copy, PartialEq, Eq, Debug)]
+enum Failure {
+    /// Program code; for 10 and 11 hex the virtual address with its last 12 bits zero, else 0.
+    Guest(u8, u32),
+    /// Program code and host virtual address.
+    Host(u8, u32),
+}
+
+/// What the accesses of one unit look at: all as it was when the unit began.
+struct View<'a> {
+    record: &'a [u8],
+    storage: &'a [u8],
+    keys: &'a [u8],
+    designation: u32,
+}
+
+impl View<'_> {
+    /// The host tables: the host absolute address and whether the host page is protected, else the program code.
+    fn host_translate(&self, address: u32) -> Result<(u32, bool), u8> {
+        let segment_index = address >> 20 & 0x7FF;
+        let page_index = address >> 12 & 0xFF;
+        if segment_index >> 4 > self.designation & 0x7F {
+            return Err(SEGMENT_TRANSLATION);
+        }
+        let segment_entry = self.host_word((self.designation & 0x7FFF_F000) + 4 * segment_index)?;
+        if bit(segment_entry, 26) {
+            return Err(SEGMENT_TRANSLATION);
+        }
+        if bit(segment_entry, 0) {
+            return Err(TRANSLATION_SPECIFICATION);
+        }
+        if page_index >> 4 > segment_entry & 0xF {
+            return Err(PAGE_TRANSLATION);
+        }
+        let page_entry = self.host_word((segment_entry & 0x7FFF_FFC0) + 4 * page_index)?;
+        if bit(page_entry, 21) {
+            return Err(PAGE_TRANSLATION);
+        }
+        if bit(page_entry, 0) || bit(page_entry, 20) || bit(page_entry, 23) {
+            return Err(TRANSLATION_SPECIFICATION);
+        }
+        let absolute = (page_entry & 0x7FFF_F000) + (address & 0xFFF);
+        if absolute as usize >= self.storage.len() {
+            return Err(ADDRESSING);
+        }
+        Ok((absolute, bit(page_entry, 22)))
+    }
+
+    /// A word of a host table: "or 5 beyond the storage".
+    fn host_word(&self, address: u32) -> Result<u32, u8> {
+        if address as usize >= self.storage.len() {
+            return Err(ADDRESSING);
+        }
+        Ok(word(self.storage, address as usize))
+    }
+
+    /// "Prefixing exchanges real block 0 and the prefix block."
+    fn prefixed(&self, real: u32) -> u32 {
+        let prefix = prefix(self.record);
+        if real & 0x7FFF_F000 == 0 {
+            return prefix + (real & 0xFFF);
+        }
+        if real & 0x7FFF_F000 == prefix {
+            return real & 0xFFF;
+        }
+        real
+    }
+
+    /// A guest real address, up to its host page: host absolute address and whether the host page is protected.
+    fn real_to_host(&self, real: u32) -> Result<(u32, bool), Failure> {
+        if real as u64 >= extent_bytes(self.record) {
+            return Err(Failure::Guest(ADDRESSING, 0));
+        }
+        let host_address = origin_bytes(self.record) + self.prefixed(real);
+        self.host_translate(host_address).map_err(|code| Failure::Host(code, host_address))
+    }
+
+    /// An entry of a guest table. Keys and host page protection do not guard it.
+    fn guest_table_word(&self, real: u32) -> Result<u32, Failure> {
+        let (absolute, _) = self.real_to_host(real)?;
+        Ok(word(self.storage, absolute as usize))
+    }
+
+    /// The guest's tables: the real address and whether the guest page is protected.
+    fn guest_translate(&self, logical: u32) -> Result<(u32, bool), Failure> {
+        if !psw_bit(self.record, 5) {
+            return Ok((logical, false));
+        }
+        let page_address = logical & 0x7FFF_F000;
+        // "CR0 bits 8-12 must be 10110"
+        if control_register(self.record, 0) >> 19 & 0x1F != 0b10110 {
+            return Err(Failure::Guest(TRANSLATION_SPECIFICATION, 0));
+        }
+        let segment_index = logical >> 20 & 0x7FF;
+        let page_index = logical >> 12 & 0xFF;
+        let designation = control_register(self.record, 1);
+        if segment_index >> 4 > designation & 0x7F {
+            return Err(Failure::Guest(SEGMENT_TRANSLATION, page_address));
+        }
+        let segment_entry = self.guest_table_word((designation & 0x7FFF_F000) + 4 * segment_index)?;
+        if bit(segment_entry, 26) {
+            return Err(Failure::Guest(SEGMENT_TRANSLATION, page_address));
+        }
+        if bit(segment_entry, 0) {
+            return Err(Failure::Guest(TRANSLATION_SPECIFICATION, 0));
+        }
+        if page_index >> 4 > segment_entry & 0xF {
+            return Err(Failure::Guest(PAGE_TRANSLATION, page_address));
+        }
+        let page_entry = self.guest_table_word((segment_entry & 0x7FFF_FFC0) + 4 * page_index)?;
+        if bit(page_entry, 21) {
+            return Err(Failure::Guest(PAGE_TRANSLATION, page_address));
+        }
+        if bit(page_entry, 0) || bit(page_entry, 20) || bit(page_entry, 23) {
+            return Err(Failure::Guest(TRANSLATION_SPECIFICATION, 0));
+        }
+        Ok(((page_entry & 0x7FFF_F000) + (logical & 0xFFF), bit(page_entry, 22)))
+    }
+
+    /// All tests of one byte, in the order of "Addresses". The answer is its host absolute address.
+    fn access(&self, address: u32, access: Access) -> Result<u32, Failure> {
+        let logical = wrap(self.record, address);
+        if access == Access::Store && logical <= 511 && bit(control_register(self.record, 0), 3) {
+            return Err(Failure::Guest(PROTECTION, 0));
+        }
+        let (real, guest_protected) = self.guest_translate(logical)?;
+        let (absolute, host_protected) = self.real_to_host(real)?;
+        if access == Access::Store && guest_protected {
+            return Err(Failure::Guest(PROTECTION, 0));
+        }
+        // "access key nonzero and different from key bits 0-3: stores, and fetches if bit 4 is one"
+        let access_key = self.record[PSW + 1] >> 4;
+        let storage_key = self.keys[absolute as usize / FRAME];
+        if access_key != 0 && access_key != storage_key >> 4 {
+            if access == Access::Store || storage_key & 0x08 != 0 {
+                return Err(Failure::Guest(PROTECTION, 0));
+            }
+        }
+        if access == Access::Store && host_protected {
+            return Err(Failure::Host(PROTECTION, origin_bytes(self.record) + self.prefixed(real)));
+        }
+        Ok(absolute)
+    }
+
+    /// A byte of an interruption area: "These skip keys and low-address protection". It is a real address.
+    fn area_access(&self, real: u32, access: Access) -> Result<u32, Failure> {
+        let (absolute, host_protected) = self.real_to_host(real)?;
+        if access == Access::Store && host_protected {
+            return Err(Failure::Host(PROTECTION, origin_bytes(self.record) + self.prefixed(real)));
+        }
+        Ok(absolute)
+    }
+
+    /// An operand of some bytes, from its first byte on: the host absolute address of each.
+    fn operand(&self, address: u32, length: u32, access: Access) -> Result<Vec<u32>, Failure> {
+        let mut places = Vec::new();
+        for offset in 0..length {
+            places.push(self.access(address.wrapping_add(offset), access)?);
+        }
+        Ok(places)
+    }
+
+    fn area(&self, real: u32, length: u32, access: Access) -> Result<Vec<u32>, Failure> {
+        let mut places = Vec::new();
+        for offset in 0..length {
+            places.push(self.area_access(real + offset, access)?);
+        }
+        Ok(places)
+    }
+
+    fn fetch(&self, places: &[u32]) -> Vec<u8> {
+        places.iter().map(|&place| self.storage[place as usize]).collect()
+    }
+}
+
+// ---------------------------------------------------------------------------------------------------------------
+// "Instructions": the one table of opcodes.
+
+#[derive(Clone, Copy, PartialEq, Eq, Debug)]
+enum Operation {
+    LoadRegister,
+    AddRegister,
+    SubtractRegister,
+    BranchOnConditionRegister,
+    SupervisorCall,
+    LoadAddress,
+    BranchOnCondition,
+    Store,
+    Load,
+    LoadPsw,
+    StoreControl,
+    LoadControl,
+    StoreClock,
+    SetCpuTimer,
+    StoreCpuTimer,
+    /// Mandatory interception.
+    Mandatory,
+}
+
+/// The operation and whether it is privileged. None: operation exception.
+fn lookup(text: &[u8]) -> Option<(Operation, bool)> {
+    let found = match text[0] {
+        0x07 => (Operation::BranchOnConditionRegister, false),
+        0x0A => (Operation::SupervisorCall, false),
+        0x18 => (Operation::LoadRegister, false),
+        0x1A => (Operation::AddRegister, false),
+        0x1B => (Operation::SubtractRegister, false),
+        0x41 => (Operation::LoadAddress, false),
+        0x47 => (Operation::BranchOnCondition, false),
+        0x50 => (Operation::Store, false),
+        0x58 => (Operation::Load, false),
+        0x82 => (Operation::LoadPsw, true),
+        0x83 => (Operation::Mandatory, true),
+        0xAE => (Operation::Mandatory, true),
+        0xB2 => match text[1] {
+            0x05 => (Operation::StoreClock, false),
+            0x08 => (Operation::SetCpuTimer, true),
+            0x09 => (Operation::StoreCpuTimer, true),
+            0x30..=0x3C => (Operation::Mandatory, true),
+            _ => return None,
+        },
+        0xB6 => (Operation::StoreControl, true),
+        0xB7 => (Operation::LoadControl, true),
+        _ => return None,
+    };
+    Some(found)
+}
+
+/// The length in halfwords by the two leftmost bits of the operation code.
+fn halfwords(first: u8) -> u8 {
+    match first >> 6 {
+        0 => 1,
+        1 | 2 => 2,
+        _ => 3,
+    }
+}
+
+/// Second-operand address of RX: base, index and displacement.
+fn address_rx(record: &[u8], text: &[u8]) -> u32 {
+    let index = (text[1] & 0xF) as usize;
+    let index = if index == 0 { 0 } else { general_register(record, index) };
+    wrap(record, index.wrapping_add(base_and_displacement(record, text)))
+}
+
+/// Second-operand address of RS and S: base and displacement.
+fn address_s(record: &[u8], text: &[u8]) -> u32 {
+    wrap(record, base_and_displacement(record, text))
+}
+
+fn base_and_displacement(record: &[u8], text: &[u8]) -> u32 {
+    let base = (text[2] >> 4) as usize;
+    let base = if base == 0 { 0 } else { general_register(record, base) };
+    base.wrapping_add(halfword(text, 2) & 0xFFF)
+}
+
+/// The sum or difference, its condition code, and whether it overflows.
+fn arithmetic(first: u32, second: u32, subtract: bool) -> (u32, u8, bool) {
+    let first = first as i32 as i64;
+    let second = second as i32 as i64;
+    let exact = if subtract { first - second } else { first + second };
+    let result = exact as u32;
+    if exact != result as i32 as i64 {
+        return (result, 3, true);
+    }
+    let code = match exact {
+        0 => 0,
+        _ if exact < 0 => 1,
+        _ => 2,
+    };
+    (result, code, false)
+}
+
+// ---------------------------------------------------------------------------------------------------------------
+// One unit.
+
+/// What one unit is about to do. Nothing of it is done until it is known how the unit ends.
+struct Unit {
+    record: [u8; 200],
+    /// Host absolute address and byte.
+    stores: Vec<(u32, u8)>,
+    /// Frames to mark, with whether each was stored into.
+    marks: Vec<(usize, bool)>,
+}
+
+impl Unit {
+    fn mark(&mut self, places: &[u32], stored: bool) {
+        for &place in places {
+            self.marks.push((place as usize / FRAME, stored));
+        }
+    }
+
+    fn store(&mut self, places: &[u32], bytes: &[u8]) {
+        for (&place, &byte) in places.iter().zip(bytes) {
+            self.stores.push((place, byte));
+        }
+        self.mark(places, true);
+    }
+}
+
+/// How the instruction of a unit went.
+enum Instruction {
+    /// It ended, and the unit is as it says.
+    Ended,
+    /// Program exception. Marks so far are those of the text fetched.
+    Exception { code: u8, ilc: u8, address: u32, text: Vec<u8> },
+    /// Supervisor call that is not intercepted.
+    SupervisorCall { number: u8 },
+    /// Interception code 4.
+    Intercepted { ilc: u8, text: Vec<u8> },
+    HostFault(u8, u32),
+}
+
+/// "Order: odd address, all halfwords fetched, operation, privilege, interception, alignment, operand accesses".
+fn instruction(view: &View, unit: &mut Unit, clock: u64) -> Instruction {
+    let record = view.record;
+    let start = instruction_address(record);
+    let mut text: Vec<u8> = Vec::new();
+    let exception = |code: u8, ilc: u8, address: u32, text: &[u8]| Instruction::Exception {
+        code,
+        ilc,
+        address,
+        text: text.to_vec(),
+    };
+    if start % 2 != 0 {
+        return exception(SPECIFICATION, 1, 0, &text);
+    }
+    // "ILC is 1 if the first halfword cannot be read."
+    let mut ilc = 1;
+    let mut fetched = 0;
+    while fetched < ilc {
+        match view.operand(start.wrapping_add(2 * fetched as u32), 2, Access::Fetch) {
+            Ok(places) => {
+                text.extend(view.fetch(&places));
+                unit.mark(&places, false);
+            }
+            Err(Failure::Guest(code, address)) => return exception(code, ilc, address, &text),
+            Err(Failure::Host(code, address)) => return Instruction::HostFault(code, address),
+        }
+        if fetched == 0 {
+            ilc = halfwords(text[0]);
+        }
+        fetched += 1;
+    }
+    let Some((operation, privileged)) = lookup(&text) else {
+        return exception(OPERATION, ilc, 0, &text);
+    };
+    if privileged && psw_bit(record, 15) {
+        return exception(PRIVILEGED_OPERATION, ilc, 0, &text);
+    }
+    if intercepted(record, operation, &text) {
+        return Instruction::Intercepted { ilc, text };
+    }
+    match execute(view, unit, clock, operation, &text) {
+        Ok(ending) => ending,
+        Err(Failure::Guest(code, address)) => exception(code, ilc, address, &text),
+        Err(Failure::Host(code, address)) => Instruction::HostFault(code, address),
+    }
+}
+
+/// "Code 4 also: ..."
+fn intercepted(record: &[u8], operation: Operation, text: &[u8]) -> bool {
+    match operation {
+        Operation::Mandatory => true,
+        Operation::SupervisorCall => {
+            let flags = record[SVC_FLAGS];
+            if flags & 0x80 != 0 {
+                return true;
+            }
+            (0..3).any(|n| flags & (0x40 >> n) != 0 && record[SVC_NUMBERS + n] == text[1])
+        }
+        Operation::LoadControl => {
+            let controls = halfword(record, LCTL_CONTROLS);
+            control_range(text).iter().any(|&register| controls & (0x8000 >> register) != 0)
+        }
+        Operation::LoadPsw => record[INTERCEPTION_CONTROLS] & 0x20 != 0,
+        _ => false,
+    }
+}
+
+/// The control registers of LCTL and STCTL: from R1 up, through 15 to 0, to R3.
+fn control_range(text: &[u8]) -> Vec<usize> {
+    let last = (text[1] & 0xF) as usize;
+    let mut register = (text[1] >> 4) as usize;
+    let mut range = vec![register];
+    while register != last {
+        register = (register + 1) % 16;
+        range.push(register);
+    }
+    range
+}
+
+fn execute(
+    view: &View,
+    unit: &mut Unit,
+    clock: u64,
+    operation: Operation,
+    text: &[u8],
+) -> Result<Instruction, Failure> {
+    let record = view.record;
+    let first = (text[1] >> 4) as usize;
+    let second = (text[1] & 0xF) as usize;
+    let specification = Err(Failure::Guest(SPECIFICATION, 0));
+    advance(&mut unit.record, halfwords(text[0]));
+    match operation {
+        Operation::LoadRegister => {
+            set_general_register(&mut unit.record, first, general_register(record, second));
+        }
+        Operation::AddRegister | Operation::SubtractRegister => {
+            let subtract = operation == Operation::SubtractRegister;
+            let (result, code, overflow) =
+                arithmetic(general_register(record, first), general_register(record, second), subtract);
+            set_general_register(&mut unit.record, first, result);
+            set_condition_code(&mut unit.record, code);
+            if overflow && psw_bit(record, 20) {
+                return Err(Failure::Guest(FIXED_POINT_OVERFLOW, 0));
+            }
+        }
+        Operation::BranchOnConditionRegister => {
+            if second != 0 && first as u8 & (8 >> condition_code(record)) != 0 {
+                set_instruction_address(&mut unit.record, general_register(record, second));
+            }
+        }
+        Operation::BranchOnCondition => {
+            if first as u8 & (8 >> condition_code(record)) != 0 {
+                set_instruction_address(&mut unit.record, address_rx(record, text));
+            }
+        }
+        Operation::SupervisorCall => return Ok(Instruction::SupervisorCall { number: text[1] }),
+        Operation::LoadAddress => {
+            set_general_register(&mut unit.record, first, address_rx(record, text));
+        }
+        Operation::Store => {
+            let places = view.operand(address_rx(record, text), 4, Access::Store)?;
+            unit.store(&places, &general_register(record, first).to_be_bytes());
+        }
+        Operation::Load => {
+            let places = view.operand(address_rx(record, text), 4, Access::Fetch)?;
+            set_general_register(&mut unit.record, first, word(&view.fetch(&places), 0));
+            unit.mark(&places, false);
+        }
+        Operation::LoadPsw => {
+            let address = address_s(record, text);
+            if address % 8 != 0 {
+                return specification;
+            }
+            let places = view.operand(address, 8, Access::Fetch)?;
+            set_doubleword(&mut unit.record, PSW, doubleword(&view.fetch(&places), 0));
+            unit.mark(&places, false);
+        }
+        Operation::StoreControl => {
+            let address = address_s(record, text);
+            if address % 4 != 0 {
+                return specification;
+            }
+            let range = control_range(text);
+            let places = view.operand(address, 4 * range.len() as u32, Access::Store)?;
+            for (n, &register) in range.iter().enumerate() {
+                unit.store(&places[4 * n..4 * n + 4], &control_register(record, register).to_be_bytes());
+            }
+        }
+        Operation::LoadControl => {
+            let address = address_s(record, text);
+            if address % 4 != 0 {
+                return specification;
+            }
+            let range = control_range(text);
+            let places = view.operand(address, 4 * range.len() as u32, Access::Fetch)?;
+            let bytes = view.fetch(&places);
+            for (n, &register) in range.iter().enumerate() {
+                set_word(&mut unit.record, CONTROL_REGISTERS + 4 * register, word(&bytes, 4 * n));
+            }
+            unit.mark(&places, false);
+        }
+        Operation::StoreClock => {
+            let places = view.operand(address_s(record, text), 8, Access::Store)?;
+            unit.store(&places, &guest_clock(record, clock).to_be_bytes());
+            set_condition_code(&mut unit.record, 0);
+        }
+        Operation::SetCpuTimer => {
+            let address = address_s(record, text);
+            if address % 8 != 0 {
+                return specification;
+            }
+            let places = view.operand(address, 8, Access::Fetch)?;
+            set_doubleword(&mut unit.record, TIMER, doubleword(&view.fetch(&places), 0));
+            unit.mark(&places, false);
+        }
+        Operation::StoreCpuTimer => {
+            let address = address_s(record, text);
+            if address % 8 != 0 {
+                return specification;
+            }
+            let places = view.operand(address, 8, Access::Store)?;
+            unit.store(&places, &doubleword(record, TIMER).to_be_bytes());
+        }
+        Operation::Mandatory => unreachable!("intercepted before"),
+    }
+    Ok(Instruction::Ended)
+}
+
+/// "The guest clock is host clock plus epoch, carry out dropped."
+fn guest_clock(record: &[u8], clock: u64) -> u64 {
+    clock.wrapping_add(doubleword(record, EPOCH))
+}
+
+/// A guest interruption: old PSW, fields, new PSW. The fields start at real `fields_at`.
+fn interrupt(view: &View, unit: &mut Unit, old: u32, new: u32, fields_at: u32, fields: &[u8]) -> Result<(), Failure> {
+    // "the old PSW's bytes are accessed first"
+    let old_places = view.area(old, 8, Access::Store)?;
+    let field_places = view.area(fields_at, fields.len() as u32, Access::Store)?;
+    let new_places = view.area(new, 8, Access::Fetch)?;
+    let old_psw = doubleword(&unit.record, PSW).to_be_bytes();
+    unit.store(&old_places, &old_psw);
+    unit.store(&field_places, fields);
+    set_doubleword(&mut unit.record, PSW, doubleword(&view.fetch(&new_places), 0));
+    unit.mark(&new_places, false);
+    Ok(())
+}
+
+/// How a unit ends: complete, with the interruption presented if any, or an exit.
+enum UnitEnd {
+    Complete(Option<u8>),
+    Exit(Answer),
+}
+
+struct Guest<'a> {
+    record: &'a mut [u8],
+    storage: &'a mut [u8],
+    keys: &'a mut [u8],
+    designation: u32,
+    clock: u64,
+    time: u32,
+}
+
+impl Guest<'_> {
+    /// "Before each unit, first that applies", and the unit.
+    fn unit(&mut self) -> UnitEnd {
+        let record = &*self.record;
+        if record[INTERVENTION] & 0x04 != 0 {
+            return self.intercept(40);
+        }
+        if psw_bit(record, 1) || psw_bit(record, 16) {
+            return self.intercept(32);
+        }
+        let mut before = [0; 200];
+        before.copy_from_slice(record);
+        let mut unit = Unit { record: before, stores: Vec::new(), marks: Vec::new() };
+        if psw_is_malformed(record) {
+            return self.program_exception(unit, SPECIFICATION, 0, 0, &[]);
+        }
+        let external = psw_bit(record, 7);
+        let control_register_0 = control_register(record, 0);
+        let comparator = doubleword(record, COMPARATOR);
+        if external && bit(control_register_0, 20) && guest_clock(record, self.clock) > comparator {
+            return self.intercept_external(0x1004);
+        }
+        if external && bit(control_register_0, 21) && (doubleword(record, TIMER) as i64) < 0 {
+            return self.intercept_external(0x1005);
+        }
+        if record[INTERVENTION] & 0x01 != 0 && external {
+            return self.intercept(16);
+        }
+        if record[INTERVENTION] & 0x02 != 0 && psw_bit(record, 6) {
+            return self.intercept(24);
+        }
+        if psw_bit(record, 14) {
+            return self.intercept(28);
+        }
+        let view = View { record, storage: self.storage, keys: self.keys, designation: self.designation };
+        match instruction(&view, &mut unit, self.clock) {
+            Instruction::Ended => self.complete(unit, None),
+            Instruction::HostFault(code, address) => UnitEnd::Exit(Answer::HostFault(code, address)),
+            Instruction::Intercepted { ilc, text } => {
+                advance(self.record, ilc);
+                self.record[RESULT_ILC] = ilc;
+                self.record[RESULT_TEXT..RESULT_TEXT + text.len()].copy_from_slice(&text);
+                self.intercept(4)
+            }
+            Instruction::SupervisorCall { number } => {
+                let fields = [0, 1 << 1, 0, number];
+                match interrupt(&view, &mut unit, 32, 96, 136, &fields) {
+                    Ok(()) => self.complete(unit, Some(SVC_INTERRUPTION)),
+                    Err(failure) => UnitEnd::Exit(host_fault(failure)),
+                }
+            }
+            Instruction::Exception { code, ilc, address, text } => {
+                // An add that overflows keeps its results; of any other instruction nothing is kept.
+                if code != FIXED_POINT_OVERFLOW {
+                    unit.record = before;
+                    unit.stores.clear();
+                    if code != SEGMENT_TRANSLATION && code != PAGE_TRANSLATION {
+                        advance(&mut unit.record, ilc);
+                    }
+                }
+                self.program_exception(unit, code, ilc, address, &text)
+            }
+        }
+    }
+
+    /// Code 44, code 8 or the guest's interruption. The unit has the address advanced where it is to be.
+    fn program_exception(&mut self, mut unit: Unit, code: u8, ilc: u8, address: u32, text: &[u8]) -> UnitEnd {
+        let controls = self.record[INTERCEPTION_CONTROLS];
+        let translation = code == SEGMENT_TRANSLATION || code == PAGE_TRANSLATION;
+        if code == OPERATION && controls & 0x80 != 0 {
+            self.record.copy_from_slice(&unit.record);
+            self.record[RESULT_ILC] = ilc;
+            self.record[RESULT_TEXT..RESULT_TEXT + text.len()].copy_from_slice(text);
+            return self.intercept(44);
+        }
+        if controls & 0x40 != 0 {
+            self.record.copy_from_slice(&unit.record);
+            self.record[RESULT_ILC] = ilc;
+            self.record[RESULT_INTERRUPTION + 1] = code;
+            if translation {
+                set_word(self.record, RESULT_ADDRESS, address);
+            }
+            return self.intercept(8);
+        }
+        let mut fields = vec![0, ilc << 1, 0, code];
+        if translation {
+            fields.extend(address.to_be_bytes());
+        }
+        let view =
+            View { record: self.record, storage: self.storage, keys: self.keys, designation: self.designation };
+        match interrupt(&view, &mut unit, 40, 104, 140, &fields) {
+            Ok(()) => self.complete(unit, Some(code)),
+            Err(failure) => UnitEnd::Exit(host_fault(failure)),
+        }
+    }
+
+    fn intercept(&mut self, code: u8) -> UnitEnd {
+        self.record[RESULT_CODE] = code;
+        UnitEnd::Exit(Answer::Intercepted(code))
+    }
+
+    fn intercept_external(&mut self, interruption: u16) -> UnitEnd {
+        self.record[RESULT_INTERRUPTION..RESULT_INTERRUPTION + 2].copy_from_slice(&interruption.to_be_bytes());
+        self.intercept(20)
+    }
+
+    /// The stores, the marks and the time of a complete unit.
+    fn complete(&mut self, unit: Unit, interruption: Option<u8>) -> UnitEnd {
+        self.record.copy_from_slice(&unit.record);
+        for (place, byte) in unit.stores {
+            self.storage[place as usize] = byte;
+        }
+        for (frame, stored) in unit.marks {
+            self.keys[frame] |= 0x04;
+            if stored {
+                self.keys[frame] |= 0x02;
+            }
+        }
+        self.clock = self.clock.wrapping_add(self.time as u64);
+        let timer = doubleword(self.record, TIMER).wrapping_sub(self.time as u64);
+        set_doubleword(self.record, TIMER, timer);
+        UnitEnd::Complete(interruption)
+    }
+}
+
+/// The prefixed 4 KiB lie below the extent, so an interruption area can fail by a host fault only.
+fn host_fault(failure: Failure) -> Answer {
+    match failure {
+        Failure::Host(code, address) => Answer::HostFault(code, address),
+        Failure::Guest(..) => unreachable!("interruption areas lie below the extent"),
+    }
+}
+
+/// Step 3 of "Before each unit".
+fn psw_is_malformed(record: &[u8]) -> bool {
+    let ones = |first: usize, last: usize| (first..=last).any(|number| psw_bit(record, number));
+    psw_bit(record, 0)
+        || ones(2, 4)
+        || psw_bit(record, 17)
+        || ones(24, 31)
+        || !psw_bit(record, 12)
+        || !psw_bit(record, 32) && ones(33, 39)
+}
+
+// ---------------------------------------------------------------------------------------------------------------
+// The three operations.
+
+/// Check a record.
+pub fn check(record: &[u8]) -> Answer {
+    if let Some(number) = refuse_record(record).or_else(|| refuse_reserved(record)) {
+        return Answer::Refused(number);
+    }
+    if !entry_is_good(record) {
+        return Answer::Intercepted(32);
+    }
+    Answer::Good(0)
+}
+
+/// Translate one guest address.
+pub fn translate(record: &[u8], storage: &[u8], keys: &[u8], designation: u32, address: u32, access: u32) -> Answer {
+    let refusal = refuse_record(record)
+        .or_else(|| refuse_storage(storage.len(), keys.len()))
+        .or_else(|| refuse_reserved(record))
+        .or_else(|| if access > 2 { Some(8) } else { None });
+    if let Some(number) = refusal {
+        return Answer::Refused(number);
+    }
+    if !entry_is_good(record) {
+        return Answer::Intercepted(32);
+    }
+    let view = View { record, storage, keys, designation };
+    let access = if access == 1 { Access::Store } else { Access::Fetch };
+    match view.access(address, access) {
+        Ok(absolute) => Answer::Good(absolute),
+        Err(Failure::Guest(code, _)) => Answer::ProgramException(code),
+        Err(Failure::Host(code, host_address)) => Answer::HostFault(code, host_address),
+    }
+}
+
+/// Run the guest. Record, storage and keys are left as the run leaves them.
+pub fn run(
+    record: &mut [u8],
+    storage: &mut [u8],
+    keys: &mut [u8],
+    designation: u32,
+    clock: u64,
+    time: u32,
+    budget: u32,
+) -> Run {
+    let mut interruptions = Vec::new();
+    if let Some(number) = refuse_run(record, storage.len(), keys.len(), budget, time) {
+        return Run { answer: Answer::Refused(number), units: 0, interruptions };
+    }
+    record[RESULT_CODE..66].fill(0);
+    if !entry_is_good(record) {
+        record[RESULT_CODE] = 32;
+        return Run { answer: Answer::Intercepted(32), units: 0, interruptions };
+    }
+    let mut guest = Guest { record, storage, keys, designation, clock, time };
+    let mut units = 0;
+    loop {
+        if units == budget {
+            return Run { answer: Answer::BudgetUsed, units, interruptions };
+        }
+        match guest.unit() {
+            UnitEnd::Complete(interruption) => {
+                units += 1;
+                interruptions.extend(interruption);
+            }
+            UnitEnd::Exit(answer) => return Run { answer, units, interruptions },
+        }
+    }
+}
+
+// ---------------------------------------------------------------------------------------------------------------
+// "The entries that describe the extent", and the guest frames.
+
+/// What demand 3 keeps: table entries by their host absolute address, and guest frames.
+pub struct Extent {
+    pub entries: Vec<u32>,
+    pub frames: Vec<usize>,
+}
+
+/// Of a run with this record and storage. Empty where the run is refused or the entry fails; the caller looks at the
+/// refusals.
+pub fn describe_extent(record: &[u8], storage: &[u8], designation: u32) -> Extent {
+    let mut extent = Extent { entries: Vec::new(), frames: Vec::new() };
+    if !entry_is_good(record) {
+        return extent;
+    }
+    let first = origin_bytes(record) as u64;
+    let last = first + extent_bytes(record) - 1;
+    for segment in first >> 20..=last >> 20 {
+        // In reach: the table's length and the storage allow it.
+        if (segment >> 4) as u32 > designation & 0x7F {
+            continue;
+        }
+        let segment_at = (designation & 0x7FFF_F000) + 4 * segment as u32;
+        if segment_at as usize >= storage.len() {
+            continue;
+        }
+        extent.entries.push(segment_at);
+        let segment_entry = word(storage, segment_at as usize);
+        if bit(segment_entry, 26) || bit(segment_entry, 0) {
+            continue;
+        }
+        for page in 0..256 {
+            let page_address = segment << 20 | page << 12;
+            if page_address < first || page_address > last {
+                continue;
+            }
+            if (page >> 4) as u32 > segment_entry & 0xF {
+                continue;
+            }
+            let page_at = (segment_entry & 0x7FFF_FFC0) + 4 * page as u32;
+            if page_at as usize >= storage.len() {
+                continue;
+            }
+            extent.entries.push(page_at);
+            let page_entry = word(storage, page_at as usize);
+            if bit(page_entry, 0) || bit(page_entry, 20) || bit(page_entry, 21) || bit(page_entry, 23) {
+                continue;
+            }
+            let frame = (page_entry & 0x7FFF_F000) as usize / FRAME;
+            if frame < storage.len() / FRAME {
+                extent.frames.push(frame);
+            }
+        }
+    }
+    extent.entries.sort_unstable();
+    extent.entries.dedup();
+    extent.frames.sort_unstable();
+    extent.frames.dedup();
+    extent
+}

@@ -1,0 +1,253 @@
+//! What the programs print: the tally of ends, differences, and cases as files.
+
+use crate::ffi::{self, Packed};
+use crate::generate::Case;
+use crate::model::{Answer, FRAME, SVC_INTERRUPTION};
+use std::collections::BTreeMap;
+use std::fs;
+
+/// "Case file and worked examples": the bytes of a case file, where the format can hold the case.
+pub fn case_file(case: &Case) -> Option<Vec<u8>> {
+    let frames = case.keys.len();
+    if case.record.len() != 200 || !(1..=8).contains(&frames) || case.storage.len() != frames * FRAME {
+        return None;
+    }
+    let budget = u16::try_from(case.budget).ok()?;
+    let mut rest = vec![1];
+    rest.extend(case.designation.to_be_bytes());
+    rest.extend(case.clock.to_be_bytes());
+    rest.extend(case.time.to_be_bytes());
+    rest.extend(budget.to_be_bytes());
+    rest.extend(&case.record);
+    rest.push(frames as u8);
+    rest.extend(&case.keys);
+    rest.extend(&case.storage);
+    let mut file = (rest.len() as u32).to_be_bytes().to_vec();
+    file.extend(rest);
+    Some(file)
+}
+
+/// Writes the case as a file in the current folder, or prints it where the format cannot hold it.
+pub fn keep_case(case: &Case, name: &str) {
+    if let Some(bytes) = case_file(case) {
+        match fs::write(name, bytes) {
+            Ok(()) => println!("the case is in {name}"),
+            Err(error) => println!("the case could not be written to {name}: {error}"),
+        }
+        return;
+    }
+    println!(
+        "designation {:08x} clock {:016x} time {} budget {} storage of {} bytes, {} keys",
+        case.designation,
+        case.clock,
+        case.time,
+        case.budget,
+        case.storage.len(),
+        case.keys.len()
+    );
+    // Of a large storage the first frames are enough: the rest is zeros.
+    dump("record", &case.record);
+    dump("keys", &case.keys[..case.keys.len().min(64)]);
+    dump("storage", &case.storage[..case.storage.len().min(20 * FRAME)]);
+}
+
+/// Lines of 32 bytes; lines of zeros are left out.
+pub fn dump(name: &str, bytes: &[u8]) {
+    println!("{name}, {} bytes:", bytes.len());
+    for (number, line) in bytes.chunks(32).enumerate() {
+        if line.iter().all(|&byte| byte == 0) {
+            continue;
+        }
+        let text: String = line.iter().map(|byte| format!("{byte:02x}")).collect();
+        println!("  {:6x} {text}", number * 32);
+    }
+}
+
+/// Prints the bytes that differ, at most so many; answers whether there are any.
+pub fn show_difference(name: &str, library: &[u8], model: &[u8]) -> bool {
+    if library == model {
+        return false;
+    }
+    if library.len() != model.len() {
+        println!("{name}: {} bytes in one, {} in the other", library.len(), model.len());
+        return true;
+    }
+    let places: Vec<usize> = (0..library.len()).filter(|&at| library[at] != model[at]).collect();
+    println!("{name}: {} bytes differ", places.len());
+    for &at in places.iter().take(24) {
+        println!("  at {at} ({at:x} hex): {:02x} against {:02x}", library[at], model[at]);
+    }
+    true
+}
+
+pub fn show_answer(name: &str, answer: Packed) -> String {
+    let kind = match answer.kind() {
+        ffi::REFUSED => "refused",
+        ffi::INTERCEPTED => "intercepted",
+        ffi::HOST_FAULT => "host fault",
+        ffi::BUDGET_USED => "budget used",
+        ffi::PROGRAM_EXCEPTION => "program exception",
+        ffi::GOOD => "good",
+        _ => "unknown kind",
+    };
+    format!(
+        "{name}: {kind} {} ({:x} hex), units {}, where {:x} hex, word {:016x}",
+        answer.number(),
+        answer.number(),
+        answer.units(),
+        answer.location,
+        answer.word
+    )
+}
+
+/// How often each end occurred, with the units of each.
+#[derive(Default)]
+pub struct Tally {
+    /// Kind and number, to the units completed.
+    ends: BTreeMap<(u32, u32), Vec<u32>>,
+    /// Refusals of check and translate.
+    refusals: BTreeMap<u32, u64>,
+    /// Program codes presented as code 8 or 44, and as guest interruptions.
+    intercepted_programs: BTreeMap<u32, u64>,
+    interruptions: BTreeMap<u32, u64>,
+    /// Answers of translate: kind and number.
+    translations: BTreeMap<(u32, u32), u64>,
+}
+
+impl Tally {
+    /// The end of a run, with the record it left and the interruptions it presented.
+    pub fn run(&mut self, end: Packed, record: &[u8], interruptions: &[u8]) {
+        self.ends.entry((end.kind(), end.number())).or_default().push(end.units());
+        if end.kind() == ffi::INTERCEPTED && end.number() == 8 {
+            *self.intercepted_programs.entry(record[55] as u32).or_default() += 1;
+        }
+        if end.kind() == ffi::INTERCEPTED && end.number() == 44 {
+            *self.intercepted_programs.entry(1).or_default() += 1;
+        }
+        if end.kind() == ffi::REFUSED {
+            *self.refusals.entry(end.number()).or_default() += 1;
+        }
+        for &code in interruptions {
+            *self.interruptions.entry(code as u32).or_default() += 1;
+        }
+    }
+
+    pub fn check(&mut self, answer: Answer) {
+        if let Answer::Refused(number) = answer {
+            *self.refusals.entry(number as u32).or_default() += 1;
+        }
+    }
+
+    pub fn translation(&mut self, answer: Answer) {
+        let packed = ffi::pack(answer, 0);
+        *self.translations.entry((packed.kind(), packed.number())).or_default() += 1;
+        self.check(answer);
+    }
+
+    pub fn print(&mut self) {
+        println!("ends of runs:                 cases   units: fewest  median    most      mean");
+        let mut all = Vec::new();
+        for ((kind, number), units) in &mut self.ends {
+            let name = match *kind {
+                ffi::REFUSED => format!("refusal {number}"),
+                ffi::INTERCEPTED => format!("interception {number}"),
+                ffi::HOST_FAULT => format!("host fault {number:x} hex"),
+                _ => "budget used".to_string(),
+            };
+            print_units(&name, units);
+            all.extend_from_slice(units);
+        }
+        print_units("all", &mut all);
+        print!("program exceptions as code 8 or 44:");
+        for (code, count) in &self.intercepted_programs {
+            print!(" {code:x}:{count}");
+        }
+        print!("\nas guest interruptions:");
+        for (code, count) in &self.interruptions {
+            if *code == SVC_INTERRUPTION as u32 {
+                print!(" SVC:{count}");
+            } else {
+                print!(" {code:x}:{count}");
+            }
+        }
+        print!("\nrefusals of all three operations:");
+        for (number, count) in &self.refusals {
+            print!(" {number}:{count}");
+        }
+        print!("\ntranslations:");
+        for ((kind, number), count) in &self.translations {
+            match *kind {
+                ffi::REFUSED => print!(" refusal {number}:{count}"),
+                ffi::INTERCEPTED => print!(" interception {number}:{count}"),
+                ffi::HOST_FAULT => print!(" host fault {number:x} hex:{count}"),
+                ffi::PROGRAM_EXCEPTION => print!(" exception {number:x} hex:{count}"),
+                _ => print!(" good:{count}"),
+            }
+        }
+        println!();
+    }
+
+    /// What had to occur and never did.
+    pub fn missing(&self) -> Vec<String> {
+        let mut missing = Vec::new();
+        for code in [4, 8, 16, 20, 24, 28, 32, 40, 44] {
+            if !self.ends.contains_key(&(ffi::INTERCEPTED, code)) {
+                missing.push(format!("interception {code}"));
+            }
+        }
+        for code in [0x04, 0x05, 0x10, 0x11, 0x12] {
+            if !self.ends.contains_key(&(ffi::HOST_FAULT, code)) {
+                missing.push(format!("host fault {code:x} hex"));
+            }
+        }
+        if !self.ends.contains_key(&(ffi::BUDGET_USED, 0)) {
+            missing.push("budget used".to_string());
+        }
+        for number in 1..=8 {
+            if !self.refusals.contains_key(&number) {
+                missing.push(format!("refusal {number}"));
+            }
+        }
+        for code in [0x01, 0x02, 0x04, 0x05, 0x06, 0x08, 0x10, 0x11, 0x12] {
+            if !self.intercepted_programs.contains_key(&code) {
+                missing.push(format!("program exception {code:x} hex as an interception"));
+            }
+            if !self.interruptions.contains_key(&code) {
+                missing.push(format!("program exception {code:x} hex as a guest interruption"));
+            }
+        }
+        missing
+    }
+}
+
+fn print_units(name: &str, units: &mut [u32]) {
+    if units.is_empty() {
+        return;
+    }
+    units.sort_unstable();
+    let sum: u64 = units.iter().map(|&number| number as u64).sum();
+    println!(
+        "  {name:24} {:8} {:15} {:7} {:7} {:9.1}",
+        units.len(),
+        units[0],
+        units[units.len() / 2],
+        units[units.len() - 1],
+        sum as f64 / units.len() as f64
+    );
+}
+
+/// The numbers of the command line: cases and seed.
+pub fn arguments(default_cases: u64) -> (u64, u64) {
+    let numbers: Vec<u64> = std::env::args()
+        .skip(1)
+        .map(|text| {
+            text.parse().unwrap_or_else(|_| {
+                eprintln!("usage: [CASES] [SEED], both decimal numbers");
+                std::process::exit(2);
+            })
+        })
+        .collect();
+    (numbers.first().copied().unwrap_or(default_cases), numbers.get(1).copied().unwrap_or(DEFAULT_SEED))
+}
+
+pub const DEFAULT_SEED: u64 = 370;
