@@ -1,63 +1,512 @@
 #!/usr/bin/env python3
-"""make.py DIR: writes case files NAME.in into DIR, each with the line NAME.out that the program `case` prints for it."""
+"""make.py DIR: writes case files NAME.in into DIR, each with the line NAME.out that the program `case` prints for it.
+
+Every line follows from document 01. A guest program that finds what it should ends at DIAGNOSE (code 4); one that
+does not goes to BAD, where an operation exception leads to a wait, so that the code in the line differs.
+"""
 import os
 import struct
 import sys
 
 FRAME = 4096
-WORDS = ">I"
+TEXT = 0x200  # where a program begins
+BAD = 0x800  # zeros: an operation exception
+OK = 0x900  # DIAGNOSE
+HANDLER = 0x300
+SPOT = 0x100000  # the first byte of host segment 1
+END = "83000000"  # DIAGNOSE: code 4
+A31 = 0x80000000  # PSW bit 32, in the second word
+INVALID, PROTECTED = 0x400, 0x200  # page entry bits 21 and 22
+DAT, IO, EXTERNAL, WAIT, PROBLEM, OVERFLOW = 0x04000000, 0x02000000, 0x01000000, 0x00020000, 0x00010000, 0x0800
+COMPARATOR, TIMER, LOW, FORMAT = 0x800, 0x400, 0x10000000, 0x00B00000  # CR0 bits 20, 21, 3, and 8-12 as 10110
 
 
-def record(v=0, psw=(0x00080000, 0x80000000), reserved=0):
-    """A record whose entry is good: mode 08 hex, origin 0, extent 1, prefix 0."""
+# Instructions and PSWs, in hex
+
+def rr(op, r1, r2):
+    return f"{op:02x}{r1:x}{r2:x}"
+
+
+def rx(op, r1, d, b=0, x=0):
+    """RX, and RS with R3 in the place of the index."""
+    return f"{op:02x}{r1:x}{x:x}{b:x}{d:03x}"
+
+
+def s(op, d, b=0):
+    return f"{op:04x}{b:x}{d:03x}"
+
+
+def lr(r1, r2): return rr(0x18, r1, r2)
+def ar(r1, r2): return rr(0x1A, r1, r2)
+def sr(r1, r2): return rr(0x1B, r1, r2)
+def bcr(mask, r2): return rr(0x07, mask, r2)
+def svc(number): return f"0a{number:02x}"
+def la(r1, d, b=0, x=0): return rx(0x41, r1, d, b, x)
+def bc(mask, d, b=0, x=0): return rx(0x47, mask, d, b, x)
+def st(r1, d, b=0): return rx(0x50, r1, d, b)
+def load(r1, d, b=0): return rx(0x58, r1, d, b)
+def lpsw(d, b=0): return s(0x8200, d, b)
+def stctl(r1, r3, d, b=0): return rx(0xB6, r1, d, b, r3)
+def lctl(r1, r3, d, b=0): return rx(0xB7, r1, d, b, r3)
+def stck(d, b=0): return s(0xB205, d, b)
+def spt(d, b=0): return s(0xB208, d, b)
+def stpt(d, b=0): return s(0xB209, d, b)
+
+
+def need(mask):
+    """One unit: goes on when the condition code is one of the mask, else to BAD."""
+    return bc(15 - mask, BAD)
+
+
+def same(r1, r2):
+    """Two units: goes on when the registers are equal."""
+    return sr(r1, r2) + need(8)
+
+
+def word(d, r, b=0):
+    """Three units: goes on when the word in storage equals the register. Uses register 1."""
+    return load(1, d, b) + same(1, r)
+
+
+def psw(flags=0, address=A31 | TEXT):
+    """A PSW with bit 12 one; each bit of flags turns one bit of the first word over."""
+    return (0x00080000 ^ flags) << 32 | address
+
+
+def hexes(*words):
+    return "".join(f"{w:08x}" for w in words)
+
+
+WAITING = f"{psw(WAIT, A31):016x}"
+
+# Record, storage and file
+
+FIELDS = {"length": (0, "H"), "version": (2, "B"), "v": (3, "B"), "mode": (4, "B"), "control": (5, "B"), "lctl": (6, "H"),
+          "prefix": (8, "I"), "origin": (12, "H"), "extent": (14, "H"), "psw": (16, "Q"), "timer": (24, "Q"),
+          "comparator": (32, "Q"), "epoch": (40, "Q"), "svc": (48, "I"), "byte66": (66, "B"), "byte71": (71, "B")}
+
+
+def record(cr=(), gr=(), **fields):
+    """A record whose entry is good: mode 08 hex, origin 0, extent 1, prefix 0. An SVC field is flags and three numbers."""
     r = bytearray(200)
-    struct.pack_into(">HBBB", r, 0, 200, 1, v, 0x08)
-    struct.pack_into(">HH", r, 12, 0, 1)
-    struct.pack_into(">II", r, 16, *psw)
-    r[66] = reserved
+    for name, value in {"length": 200, "version": 1, "mode": 8, "extent": 1, "psw": psw(), **fields}.items():
+        place, form = FIELDS[name]
+        struct.pack_into(">" + form, r, place, value % 2 ** 64)
+    for start, registers in (72, cr), (136, gr):
+        for n, value in dict(registers).items():
+            struct.pack_into(">I", r, start + 4 * n, value)
     return bytes(r)
 
 
-def storage(frames=8, text=b""):
-    """Document 01's setup: the host tables, with guest page 0 in frame 3 and guest page 1 invalid."""
-    s = bytearray(frames * FRAME)
-    if frames == 8:
-        struct.pack_into(WORDS, s, 0x1000, 0x00002000)
-        struct.pack_into(">II", s, 0x2000, 0x00003000, 0x00000400)
-        s[0x3000:0x3000 + len(text)] = text
-    return bytes(s)
+def storage(text, at, mem, frames, host, spot, segment, first):
+    """Frame 0 is guest page 0. The host tables lie in the last frame, which may be frame 0 too: segment table at 0, with
+    entries for segment `first` and the next, page tables at F40 hex (guest pages 0-15, `host` gives entries) and F80 hex
+    (`spot` is the entry for the page at SPOT)."""
+    b = bytearray(frames * FRAME)
+    t = (frames - 1) * FRAME
+    pages = {**dict.fromkeys(range(16), INVALID), 0: 0, **dict(host)}
+    parts = {0x60: WAITING, 0x68: WAITING, OK: END, at: text,
+             t + 4 * first: hexes(t + 0xF40 if segment is None else segment, 0x20 if spot is None else t + 0xF80),
+             t + 0xF40: hexes(*(pages[n] for n in range(16))), t + 0xF80: hexes(spot or 0), **dict(mem)}
+    for place, part in parts.items():
+        part = bytes.fromhex(part)
+        b[place:place + len(part)] = part
+    assert len(b) == frames * FRAME
+    return bytes(b)
 
 
-def case(r, s, time=1, budget=1, version=1, count=None, longer=0):
+def pack(r, b, keys=None, designation=0, clock=0, time=1, budget=100, version=1, count=None, longer=0):
     """A case file. A count or a length that is wrong is asked for by name."""
-    frames = len(s) // FRAME
-    count = frames if count is None else count
-    rest = struct.pack(">BIQIH", version, 0x1000, 0, time, budget) + r + bytes([count]) + bytes(frames) + s
-    return struct.pack(WORDS, len(rest) + longer) + rest
+    frames = len(b) // FRAME
+    head = struct.pack(">BIQIH", version, designation, clock % 2 ** 64, time, budget)
+    rest = head + r + bytes([frames if count is None else count]) + bytes(keys or frames) + b
+    return struct.pack(">I", len(rest) + longer) + rest
 
 
-# BC 15,0: a branch to itself
-LOOP = bytes.fromhex("47f00000")
-STOP = record(v=0x04)
-AT_4096 = record(psw=(0x00080000, 0x80001000))
+CASES = {}
+# Guest page 0 begins host segment 4, which leaves bytes 0-15 of frame 0 to the guest.
+AWAY = {"origin": 64, "first": 4}
 
-CASES = {
-    "stop": (case(STOP, storage(1)), "I 40 0"),
-    "no_budget": (case(STOP, storage(1), budget=0), "B 0 0"),
-    "budget_used": (case(record(), storage(text=LOOP), budget=65535), "B 0 65535"),
-    "host_fault": (case(AT_4096, storage()), "H 17 0"),
-    "time_too_large": (case(STOP, storage(1), time=1048577), "R 6"),
-    "reserved_used": (case(record(reserved=1), storage(1)), "R 7"),
-    "largest": (case(STOP, storage()), "I 40 0"),
-    "empty": (b"", "R 9"),
-    "short": (case(STOP, storage(1))[:-1], "R 9"),
-    "longer": (case(STOP, storage(1)) + b"\0", "R 9"),
-    "length_too_long": (case(STOP, storage(1), longer=1), "R 9"),
-    "wrong_version": (case(STOP, storage(1), version=2), "R 9"),
-    "no_frames": (case(STOP, b""), "R 9"),
-    "nine_frames": (case(STOP, storage(9)), "R 9"),
-    "wrong_count": (case(STOP, storage(1), count=2), "R 9"),
-}
+
+def add(name, line, text=END, at=TEXT, mem=(), frames=1, host=(), spot=None, segment=None, first=0, **given):
+    """A case of one program. What is given goes to the file if `pack` knows it, else to the record."""
+    outer = {k: given.pop(k) for k in ("keys", "designation", "clock", "time", "budget") if k in given}
+    outer.setdefault("designation", (frames - 1) * FRAME)
+    keep(name, line, pack(record(**given), storage(text, at, mem, frames, host, spot, segment, first), **outer))
+
+
+def keep(name, line, file):
+    assert name not in CASES, name
+    CASES[name] = (file, line)
+
+
+def dat(pages=(0, INVALID), segments=(0x1C0, 0x20), flags=0, cr0=FORMAT, cr1=0, **given):
+    """DAT on: guest segment table at real 0, page table at 1C0 hex, so that virtual page 0 is real page 0."""
+    mem = {0: hexes(*segments), 0x1C0: hexes(*pages), **given.pop("mem", {})}
+    return {**AWAY, "mem": mem, "psw": psw(DAT | flags), "cr": {0: cr0, 1: cr1}, **given}
+
+
+def stored(name, code, ilc=2, old=None, address=0, **given):
+    """A program exception as an interruption to a handler, which looks at the ILC and code, the address at 144 and the
+    second word of the old PSW (by default advanced)."""
+    old = A31 | TEXT + 2 * ilc if old is None else old
+    handler = word(140, 15) + word(144, 14) + word(44, 13) + END
+    mem = {0x68: f"{psw(0, A31 | HANDLER):016x}", HANDLER: handler, **given.pop("mem", {})}
+    gr = {13: old, 14: address, 15: ilc << 17 | code, **given.pop("gr", {})}
+    add(name + "_stored", "I 4 10", mem=mem, gr=gr, **given)
+
+
+def exception(name, code, ilc=2, old=None, address=0, **given):
+    """A program exception three times: as code 8, as an interruption to a wait, and as above."""
+    add(name + "_code_8", "I 8 0", control=0x40, **given)
+    add(name + "_to_wait", "I 28 1", **given)
+    stored(name, code, ilc, old, address, **given)
+
+
+# Files: budget ends and refusals
+
+STOP = record(v=0x04, psw=psw(0, A31))
+
+
+def stop(frames=1, r=STOP, **given):
+    """A file of zeros with a stop request."""
+    return pack(r, bytes(frames * FRAME), **{"designation": 0x1000, "budget": 1, **given})
+
+
+keep("stop", "I 40 0", stop())
+keep("no_budget", "B 0 0", stop(budget=0))
+keep("largest", "I 40 0", stop(8))
+for budget in 1, 7, 65535:
+    add(f"budget_{budget}", f"B 0 {budget}", bc(15, TEXT), budget=budget)
+add("budget_before_code_28", "B 0 1", lpsw(0x60), budget=1)
+add("time_largest", "B 0 3", bc(15, TEXT), time=1048576, budget=3)
+
+for length in 199, 201:
+    keep(f"record_length_{length}", "R 1", stop(r=record(length=length)))
+keep("record_version_2", "R 2", stop(r=record(version=2)))
+keep("time_too_large", "R 6", stop(time=1048577))
+keep("byte_66_used", "R 7", stop(r=record(byte66=1)))
+keep("byte_71_used", "R 7", stop(r=record(byte71=0x80)))
+keep("malformed_before_length", "R 9", stop(r=record(length=0), version=0))
+keep("length_before_version", "R 1", stop(r=record(length=201, version=2)))
+keep("version_before_time", "R 2", stop(r=record(version=2), time=1048577))
+keep("time_before_byte_66", "R 6", stop(r=record(byte66=1), time=2 ** 32 - 1))
+keep("refusal_before_entry", "R 7", stop(r=record(byte66=1, mode=0)))
+
+keep("malformed_empty", "R 9", b"")
+keep("malformed_part_of_length", "R 9", bytes(3))
+keep("malformed_length_only", "R 9", bytes(4))
+keep("malformed_no_frame_count", "R 9", struct.pack(">I", 219) + stop()[4:223])
+keep("malformed_short", "R 9", stop()[:-1])
+keep("malformed_byte_after", "R 9", stop() + b"\0")
+keep("malformed_length_over", "R 9", stop(longer=1))
+keep("malformed_length_under", "R 9", stop(longer=-1))
+keep("malformed_version_0", "R 9", stop(version=0))
+keep("malformed_version_2", "R 9", stop(version=2))
+keep("malformed_count_0", "R 9", stop(0))
+keep("malformed_count_9", "R 9", stop(9))
+keep("malformed_count_over", "R 9", stop(count=2))
+keep("malformed_count_under", "R 9", stop(2, count=1))
+
+# Entry, and code 32 by PSW
+
+for mode in 0x00, 0x04, 0x0C, 0x0A:
+    add(f"entry_mode_{mode:02x}", "I 32 0", mode=mode)
+add("entry_mode_bits_ignored", "I 4 0", mode=0xF9)
+add("entry_extent_0", "I 32 0", extent=0)
+add("entry_origin_32768", "I 32 0", origin=32768)
+add("entry_sum_32769", "I 32 0", origin=32767, extent=2)
+add("entry_sum_32768", "H 5 0", origin=32767, designation=0x7F)  # the host segment entry lies past the storage
+add("entry_prefix_over_extent", "I 32 0", prefix=0x10000)
+add("entry_prefix_last_page", "I 4 0", prefix=0xF000, host={15: 0})
+add("entry_prefix_bits_ignored", "I 4 0", prefix=0x80000FFF)
+add("entry_before_budget", "I 32 0", mode=0, budget=0)
+add("entry_before_stop", "I 32 0", mode=0, v=0x04)
+add("psw_bit_1", "I 32 0", psw=psw(0x40000000))
+add("psw_bit_16", "I 32 0", psw=psw(0x8000))
+add("psw_bit_1_by_lpsw", "I 32 1", lpsw(0x400), mem={0x400: f"{psw(0x40000000):016x}"})
+
+# Code 4: mandatory, SVC, LPSW, LCTL. Codes 44, 16, 24, 28
+
+for op in 0x8300, 0xAE00, 0xB230, 0xB231, 0xB236, 0xB23B, 0xB23C:
+    add(f"mandatory_{op:04x}", "I 4 0", s(op, 0))
+for op in 0xB22F, 0xB23D:
+    add(f"operation_{op:04x}", "I 44 0", s(op, 0), control=0x80)
+add("svc_to_wait", "I 28 1", svc(5))
+add("svc_flag_all", "I 4 0", svc(5), svc=0x80000000)
+for n in 1, 2, 3:
+    number = 5 << 24 - 8 * n
+    add(f"svc_number_{n}", "I 4 0", svc(5), svc=0x80000000 >> n | number)
+add("svc_number_flag_zero", "I 28 1", svc(5), svc=0x50000500)
+add("svc_number_other", "I 28 1", svc(5), svc=0x70040607)
+add("svc_stored", "I 4 10", svc(0xFE) + "0000", gr={13: 0x00082000, 14: A31 | TEXT + 2, 15: 0x000200FE}, psw=psw(0x2000),
+    mem={0x60: f"{psw(0, A31 | HANDLER):016x}", HANDLER: word(32, 13) + word(36, 14) + word(136, 15) + END})
+add("lpsw_by_control", "I 4 0", lpsw(0x60), control=0x20)
+add("lpsw_by_control_unaligned", "I 4 0", lpsw(0x64), control=0xE0)
+add("lctl_first_register", "I 4 0", lctl(5, 7, 0x400), lctl=0x0400)
+add("lctl_last_register", "I 4 0", lctl(5, 7, 0x400), lctl=0x0100)
+add("lctl_register_after", "I 28 2", lctl(5, 7, 0x400) + "0000", lctl=0xF8FF)
+add("lctl_over_15_to_0", "I 4 0", lctl(15, 0, 0x400), lctl=0x8000)
+add("lctl_over_15_not_1", "I 28 2", lctl(15, 0, 0x400) + "0000", lctl=0x7FFE)
+add("lctl_before_alignment", "I 4 0", lctl(5, 5, 0x401), lctl=0x0400, control=0x40)
+add("code_44", "I 44 0", "0000", control=0x80)
+add("code_44_before_8", "I 44 0", "ff0000000000", control=0xC0)
+add("external_request", "I 16 0", v=0x01, psw=psw(EXTERNAL))
+add("external_request_masked", "I 4 0", v=0x01, psw=psw(IO))
+add("io_request", "I 24 0", v=0x02, psw=psw(IO))
+add("io_request_masked", "I 4 0", v=0x02, psw=psw(EXTERNAL))
+add("request_bits_0_to_4", "I 4 0", v=0xF8, psw=psw(IO | EXTERNAL))
+add("wait", "I 28 0", psw=psw(WAIT))
+
+# Code 20
+
+for name, line, given in [
+    ("greater", "I 20 0", dict(clock=8, comparator=7)),
+    ("equal", "I 4 0", dict(clock=7, comparator=7)),
+    ("unsigned_due", "I 20 0", dict(clock=2 ** 63, comparator=2 ** 63 - 1)),
+    ("unsigned_not_due", "I 4 0", dict(clock=1, comparator=2 ** 63)),
+    ("epoch_carry_equal", "I 4 0", dict(clock=-1, epoch=2, comparator=1)),
+    ("epoch_carry_greater", "I 20 0", dict(clock=-1, epoch=2, comparator=0)),
+    ("after_three_units", "I 20 3", dict(text=bc(15, TEXT), clock=1, time=3, comparator=7)),
+    ("cr0_zero", "I 4 0", dict(clock=1, cr={0: TIMER})),
+    ("psw_bit_7_zero", "I 4 0", dict(clock=1, psw=psw(IO))),
+]:
+    add("comparator_" + name, line, **{"psw": psw(EXTERNAL), "cr": {0: COMPARATOR}, **given})
+for name, line, given in [
+    ("negative", "I 20 0", dict(timer=-1)),
+    ("zero", "I 4 0", dict(timer=0)),
+    ("lowest", "I 20 0", dict(timer=-2 ** 63)),
+    ("falls_to_0_then_below", "I 20 2", dict(text=bc(15, TEXT), timer=5, time=5)),
+    ("wraps", "I 4 1", dict(text=lctl(0, 0, 0x400) + END, mem={0x400: hexes(TIMER)}, timer=-2 ** 63, cr={})),
+    ("enabled_by_lctl", "I 20 1", dict(text=lctl(0, 0, 0x400) + END, mem={0x400: hexes(TIMER)}, timer=-1, cr={})),
+    ("cr0_zero", "I 4 0", dict(timer=-1, cr={0: COMPARATOR}, comparator=1)),
+    ("psw_bit_7_zero", "I 4 0", dict(timer=-1, psw=psw(IO))),
+    ("falls_in_interruption", "I 20 1", dict(text="0000", timer=0, mem={0x68: f"{psw(EXTERNAL):016x}"})),
+]:
+    add("timer_" + name, line, **{"psw": psw(EXTERNAL), "cr": {0: TIMER}, **given})
+
+# Order before a unit
+
+BOTH = {"cr": {0: COMPARATOR | TIMER}}
+add("order_stop_psw_bit_1", "I 40 0", v=0x04, psw=psw(0x40000000))
+add("order_psw_bit_1_malformed", "I 32 0", psw=psw(0xC0000000), control=0x40)
+add("order_malformed_comparator", "I 8 0", psw=psw(0x4000 | EXTERNAL), clock=1, control=0x40, **BOTH)
+add("order_malformed_wait", "I 8 0", psw=psw(0x4000 | WAIT), control=0x40)
+add("order_malformed_requests", "I 28 1", psw=psw(0x4000 | IO | EXTERNAL), v=0x03)
+add("order_comparator_external", "I 20 0", psw=psw(EXTERNAL | IO), clock=1, v=0x03, **BOTH)
+add("order_timer_external", "I 20 0", psw=psw(EXTERNAL | IO), timer=-1, v=0x03, **BOTH)
+add("order_external_io", "I 16 0", psw=psw(EXTERNAL | IO | WAIT), v=0x03)
+add("order_io_wait", "I 24 0", psw=psw(IO | WAIT), v=0x03)
+add("order_timer_wait", "I 20 0", psw=psw(EXTERNAL | WAIT), timer=-1, **BOTH)
+add("order_wait_odd_address", "I 28 0", psw=psw(WAIT, A31 | 0x201), control=0x40)
+add("order_budget_comparator", "B 0 1", lr(1, 2), psw=psw(EXTERNAL), budget=1, **BOTH)
+
+# Program exceptions
+
+TWO = {"frames": 2, "host": {1: FRAME}}  # guest page 1 is frame 1
+exception("operation", 1, 1, text="0000")
+exception("privileged", 2, text=lpsw(0x60), psw=psw(PROBLEM))
+exception("key_store", 4, text=st(1, 0x400), psw=psw(0x00100000), keys=[0x20])
+stored("key_text", 4, 1, psw=psw(0x00100000), keys=[0x28])
+exception("page_protected", 4, text=st(1, 0x400, 2), gr={2: 0x1000}, **dat(pages=(0, PROTECTED)))
+exception("low_address", 4, text=st(1, 0x1FF), cr={0: LOW})
+exception("addressing", 5, text=load(1, 0, 2), gr={2: 0x10000})
+stored("addressing_text", 5, 1, psw=psw(0, A31 | 0x10000), old=A31 | 0x10002)
+exception("odd_address", 6, 1, psw=psw(0, A31 | 0x201), old=A31 | 0x203)
+exception("alignment", 6, text=lpsw(0x404))
+exception("malformed_psw", 6, 0, psw=psw(0x00080000))
+exception("overflow", 8, 1, text=ar(1, 2), gr={1: 0x7FFFFFFF, 2: 1}, psw=psw(OVERFLOW))
+exception("segment_invalid", 0x10, old=A31 | TEXT, address=SPOT, text=load(1, 4, 2), gr={2: SPOT}, **dat())
+exception("page_invalid", 0x11, old=A31 | TEXT, address=0x1000, text=load(1, 0, 2), gr={2: 0x1ABC}, **dat())
+exception("translation_page_bit_20", 0x12, text=load(1, 0, 2), gr={2: 0x1000}, **dat(pages=(0, 0x800)))
+
+
+stored("operation_length_2", 1, 2, text="40000000")
+stored("operation_length_3", 1, 3, text="d20000000000")
+for op, name in (0xB208, "spt"), (0xB209, "stpt"), (0xB600, "stctl"), (0xB700, "lctl"), (0x8300, "diagnose"), (0xAE00, "sigp"), \
+        (0xB230, "b230"):
+    add(f"problem_state_{name}", "I 8 0", s(op, 0x400), psw=psw(PROBLEM), control=0x60, lctl=0xFFFF)
+add("problem_state_lpsw_control", "I 8 0", lpsw(0x60), psw=psw(PROBLEM), control=0x60)
+add("problem_state_stck", "I 4 1", stck(0x400) + svc(1), psw=psw(PROBLEM), svc=0x80000000)
+for text, name in (spt(0x404), "spt"), (stpt(0x404), "stpt"), (lctl(2, 2, 0x402), "lctl"), (stctl(2, 2, 0x402), "stctl"):
+    stored("alignment_" + name, 6, text=text)
+for n, flags in (0, 0x80000000), (2, 0x20000000), (3, 0x10000000), (4, 0x08000000), (17, 0x4000), (24, 0x80), (31, 1):
+    add(f"malformed_psw_bit_{n}", "I 8 0", psw=psw(flags), control=0x40)
+for n, second in (33, 0x40000200), (39, 0x01000200):
+    add(f"malformed_psw_bit_{n}", "I 8 0", psw=psw(0, second), control=0x40)
+add("malformed_psw_by_lpsw", "I 28 2", lpsw(0x400), mem={0x400: f"{psw(0x00080000):016x}"})
+stored("psw_bit_40_in_24_bit_mode", 5, 1, psw=psw(0, 0x00800000), old=0x00800002)  # well formed, but beyond the extent
+stored("key_fetch", 4, text=load(1, 0, 2), gr={2: 0x1000}, psw=psw(0x00100000), keys=[0x10, 0x28], **TWO)
+stored("overflow_sr", 8, 1, text=sr(1, 2), gr={1: 0x80000000, 2: 1}, psw=psw(OVERFLOW))
+stored("segment_length", 0x10, old=A31 | TEXT, address=0x01000000, text=load(1, 0, 2), gr={2: 0x01000000}, **dat())
+# Address 00FFFFFF hex passes the segment length test; the entry at 60 is zero, a page table of length 0.
+stored("segment_length_last", 0x11, old=A31 | TEXT, address=0x00FFF000, text=load(1, 0, 2), gr={2: 0x00FFFFFF}, **dat())
+stored("page_table_length", 0x11, old=A31 | TEXT, address=0x10000, text=load(1, 0, 2), gr={2: 0x10000}, **dat())
+stored("translation_cr0", 0x12, 1, **dat(cr0=0x00B80000))
+stored("translation_segment_bit_0", 0x12, text=load(1, 0, 2), gr={2: SPOT}, **dat(segments=(0x1C0, 0x800001C0)))
+stored("translation_page_bit_0", 0x12, text=load(1, 0, 2), gr={2: 0x1000}, **dat(pages=(0, 0x80000000)))
+stored("translation_page_bit_23", 0x12, text=load(1, 0, 2), gr={2: 0x1000}, **dat(pages=(0, 0x100)))
+stored("invalid_before_bit_20", 0x11, old=A31 | TEXT, address=0x1000, text=load(1, 0, 2), gr={2: 0x1000}, **dat(pages=(0, 0xC00)))
+stored("addressing_segment_table", 5, 1, **dat(cr1=0x10000))
+stored("addressing_page_table", 5, text=load(1, 0, 2), gr={2: SPOT}, **dat(segments=(0x1C0, 0x10000)))
+stored("addressing_by_dat", 5, text=load(1, 0, 2), gr={2: 0x1000}, **dat(pages=(0, 0x10000)))
+stored("odd_before_addressing", 6, 1, psw=psw(0, A31 | 0x10001), old=A31 | 0x10003)
+stored("alignment_before_addressing", 6, text=lpsw(4, 2), gr={2: 0x10000})
+stored("low_address_before_dat", 4, text=st(1, 0), old=A31 | 0x1204,
+       **{**dat(cr0=FORMAT | LOW, pages=(INVALID, 0)), "psw": psw(DAT, A31 | 0x1000 | TEXT)})
+stored("privileged_before_alignment", 2, text=spt(0x401), psw=psw(PROBLEM))
+add("low_address_512", "I 4 1", st(1, 0x200) + END, cr={0: LOW})
+add("low_address_fetch", "I 4 1", load(1, 0x1FF) + END, cr={0: LOW})
+add("low_address_not_interruptions", "I 28 1", "0000", cr={0: LOW})
+add("operation_before_privileged", "I 44 0", "b2040000", psw=psw(PROBLEM), control=0xC0)
+add("key_0_stores", "I 4 1", st(1, 0x400) + END, keys=[0x28])
+add("key_equal_stores", "I 4 1", st(1, 0x400) + END, psw=psw(0x00200000), keys=[0x28])
+add("key_fetch_allowed", "I 4 1", load(1, 0x400) + END, psw=psw(0x00100000), keys=[0x20])
+add("page_protected_fetch", "I 4 1", load(1, 0x400, 2) + END, gr={2: 0x1000}, **dat(pages=(0, PROTECTED)))
+
+# Host faults: at SPOT, by text, operand, guest table entry and prefix area
+
+PAST = 0x10000  # a frame past the storage
+FAULTS = {4: PROTECTED, 5: PAST, 16: None, 17: INVALID, 18: 0x800}
+for code, entry in FAULTS.items():
+    reach = {"spot": entry, "extent": 17}
+    line = f"H {code} 0"
+    if code != 4:
+        add(f"host_{code}_text", line, psw=psw(0, A31 | SPOT), **reach)
+        add(f"host_{code}_load", f"H {code} 1", lr(1, 3) + load(1, 0, 2), gr={2: SPOT}, **reach)
+        add(f"host_{code}_segment_entry", line, **dat(cr1=SPOT, **reach))
+    add(f"host_{code}_prefix_program", line, "0000", psw=psw(0, A31 | SPOT | TEXT), prefix=SPOT, **reach)
+    if code in (4, 17):
+        add(f"host_{code}_store", line, st(1, 0, 2), gr={2: SPOT}, **reach)
+        add(f"host_{code}_prefix_svc", line, svc(1), psw=psw(0, A31 | SPOT | TEXT), prefix=SPOT, **reach)
+add("host_17_page_entry", "H 17 0", **dat(segments=(SPOT,), spot=INVALID, extent=17))
+add("host_18_page_entry", "H 18 0", **dat(segments=(SPOT,), spot=0x100, extent=17))
+add("host_protected_load", "I 4 1", load(1, 0, 2) + END, gr={2: SPOT}, spot=PROTECTED, extent=17)
+add("host_protected_code_8", "I 8 0", "0000", psw=psw(0, A31 | SPOT | TEXT), prefix=SPOT, spot=PROTECTED, extent=17, control=0x40)
+add("host_16_length", "H 16 0", origin=256)
+add("host_17_length", "H 17 0", psw=psw(0, A31 | 0x10000), extent=2)
+add("host_18_segment_bit_0", "H 18 0", segment=0x80000F40)
+add("host_18_page_bit_0", "H 18 0", host={0: 0x80000000})
+add("host_18_page_bit_23", "H 18 0", host={0: 0x100})
+add("host_16_before_18", "H 16 0", segment=0x80000F60)
+add("host_17_before_18", "H 17 0", host={0: 0xC00})
+add("host_5_segment_table", "H 5 0", designation=0x1000)
+add("host_5_page_table", "H 5 0", segment=0x1000)
+add("host_origin", "I 4 0", origin=16, host={0: INVALID}, spot=0)
+add("host_designation_bits_ignored", "I 4 0", designation=0x80000F80)
+add("host_17_before_page_protection", "H 17 0", st(1, 0, 2), gr={2: 0x1000}, **dat(pages=(0, 0x1000 | PROTECTED)))
+add("page_protection_before_host_4", "I 8 0", st(1, 0, 2), gr={2: 0x1000}, host={1: PROTECTED}, control=0x40,
+    **dat(pages=(0, 0x1000 | PROTECTED)))
+add("key_before_host_4", "I 8 0", st(1, 0, 2), gr={2: SPOT}, spot=PROTECTED, extent=17, psw=psw(0x00100000), keys=[0x20],
+    control=0x40)
+add("host_17_before_key", "H 17 0", st(1, 0, 2), gr={2: 0x1000}, psw=psw(0x00100000), keys=[0x20])
+add("extent_before_origin", "I 8 1", lr(1, 3) + load(1, 0, 2), gr={2: 0x10000}, origin=16, host={0: INVALID}, spot=0, control=0x40)
+
+# Instructions
+
+add("lr", "I 4 3", lr(1, 2) + same(1, 15) + END, gr={2: 5, 15: 5})
+add("lr_l_la_keep_cc", "I 4 6", lr(1, 2) + need(1) + load(1, 0x400) + need(1) + la(1, 0) + need(1) + END, psw=psw(0x3000))
+for name, op, rows in [
+    ("ar", ar, [(1, 0xFFFFFFFF, 0, 8), (1, 0xFFFFFFFE, 0xFFFFFFFF, 4), (2, 0xFFFFFFFF, 1, 2), (0x7FFFFFFF, 1, 0x80000000, 1),
+                (0x80000000, 0x80000000, 0, 1)]),
+    ("sr", sr, [(7, 7, 0, 8), (7, 8, 0xFFFFFFFF, 4), (8, 7, 1, 2), (0, 0x80000000, 0x80000000, 1),
+                (0x80000000, 1, 0x7FFFFFFF, 1)]),
+]:
+    # Rows of first operand, second operand, result and condition code, as a mask: registers 1-5, 6-10 and 11-15
+    text = "".join(op(n, n + 5) + need(row[3]) + same(n, n + 10) for n, row in enumerate(rows, 1))
+    add(name, "I 4 20", text + END, gr={n + 5 * k: row[k] for n, row in enumerate(rows, 1) for k in range(3)})
+# The old PSW of an overflow has condition code 3, and the register is set.
+add("overflow_sets_results", "I 4 6", ar(1, 2), gr={1: 0x7FFFFFFF, 2: 1, 14: 0x00083800, 15: 0x80000000}, psw=psw(OVERFLOW),
+    mem={0x68: f"{psw(0, A31 | HANDLER):016x}", HANDLER: same(1, 15) + word(40, 14) + END})
+add("bcr_register_0", "I 4 1", bcr(15, 0) + END, gr={0: BAD})
+for cc in range(4):
+    on, off = 8 >> cc, 15 - (8 >> cc)
+    add(f"bc_bcr_cc_{cc}", "I 4 4", bcr(off, 3) + bc(off, BAD) + bc(on, 0x500) + "0000", gr={2: OK, 3: BAD}, psw=psw(cc << 12),
+        mem={0x500: bcr(on, 2) + "0000"})
+add("bc_base_and_index", "I 4 2", bc(15, 0x100, 2, 3) + "0000", gr={0: 0x1000, 2: 0x400, 3: 0x100}, mem={0x600: bc(15, OK)})
+add("bc_odd", "I 8 1", bc(15, OK + 1) + END, control=0x40)
+add("la_31", "I 4 12", la(1, 0xFFF, 2, 3) + same(1, 15) + la(1, 0xFFF) + same(1, 14) + la(1, 1, 4) + same(1, 13) + la(1, 1, 5)
+    + same(1, 12) + END, gr={0: 9, 2: 1, 3: 0x10, 15: 0x1010, 14: 0xFFF, 4: 0x7FFFFFFF, 13: 0, 5: 0x00FFFFFF, 12: 0x01000000})
+add("la_24", "I 4 6", la(1, 1, 2) + same(1, 15) + la(1, 0, 3) + same(1, 14) + END, psw=psw(0, TEXT),
+    gr={2: 0x00FFFFFF, 15: 0, 3: 0xFF123456, 14: 0x123456})
+add("st_and_l", "I 4 4", st(15, 0x400) + word(0x400, 15) + END, gr={15: 0x89ABCDEF})
+add("st_unaligned", "I 4 7", st(2, 0x401) + word(0x400, 14) + word(0x404, 15) + END,
+    gr={2: 0x89ABCDEF, 14: 0x0089ABCD, 15: 0xEF000000})
+add("l_unaligned", "I 4 3", word(0x401, 15) + END, gr={15: 0xABCDEF01}, mem={0x400: "89abcdef01"})
+add("st_into_guest_table", "I 8 2", load(1, 0, 2) + st(15, 0x1C4) + load(1, 0, 2), gr={2: 0x1000, 15: INVALID}, control=0x40,
+    **dat(pages=(0, 0)))
+add("st_into_text", "I 4 1", st(1, TEXT + 4) + "0000", gr={1: 0x83000000})
+add("lpsw", "I 4 2", lpsw(0x400) + "0000", mem={0x400: f"{psw(0x3000, A31 | 0x500):016x}", 0x500: need(1) + END})
+add("stctl", "I 4 7", stctl(5, 6, 0x400) + word(0x400, 14) + word(0x404, 15) + END, cr={5: 1, 6: 2}, gr={14: 1, 15: 2})
+add("stctl_over_15_to_0", "I 4 7", stctl(15, 0, 0x400) + word(0x400, 14) + word(0x404, 15) + END, cr={15: 1, 0: 2},
+    gr={14: 1, 15: 2})
+add("lctl", "I 4 5", lctl(6, 7, 0x400) + stctl(7, 7, 0x500) + word(0x500, 15) + END, mem={0x400: hexes(1, 2)}, gr={15: 2})
+add("lctl_all", "I 4 5", lctl(1, 0, 0x400) + stctl(15, 15, 0x500) + word(0x500, 15) + END,
+    mem={0x400: hexes(*range(1, 16), 0)}, gr={15: 15})
+add("stck", "I 4 8", stck(0x401) + need(8) + word(0x401, 14) + word(0x405, 15) + END, clock=0x1122334455667788,
+    epoch=0x1000000010, psw=psw(0x3000), gr={14: 0x11223354, 15: 0x55667798})
+add("stck_second_unit", "I 4 5", lr(2, 3) + stck(0x400) + word(0x404, 15) + END, clock=5, epoch=2, time=10, gr={15: 17})
+add("stck_carry_dropped", "I 4 7", stck(0x400) + word(0x400, 14) + word(0x404, 15) + END, clock=-1, epoch=2, gr={15: 1})
+add("stpt", "I 4 8", lr(2, 3) + stpt(0x400) + word(0x400, 14) + word(0x404, 15) + END, timer=-90, time=10,
+    gr={14: 0xFFFFFFFF, 15: 0xFFFFFF9C})
+add("spt", "I 4 5", spt(0x400) + stpt(0x408) + word(0x40C, 15) + END, mem={0x400: hexes(0, 50)}, time=10, gr={15: 40})
+add("spt_then_due", "I 20 2", spt(0x400) + lr(1, 2) + END, mem={0x400: hexes(0, 5)}, time=5, psw=psw(EXTERNAL), cr={0: TIMER})
+
+# Page crossings
+
+EDGE = {"gr": {2: 0xFFE}}
+TWICE = {**AWAY, "host": {1: 0}}  # guest page 1 is frame 0 too: what crosses goes on at 0
+add("cross_load", "I 4 3", word(0, 15, 2) + END, mem={0xFFE: "3333", 0: "4444"}, gr={2: 0xFFE, 15: 0x33334444}, **TWICE)
+add("cross_store", "I 4 7", st(15, 0, 2) + word(0xFFC, 13) + word(0, 14) + END,
+    gr={2: 0xFFE, 13: 0x00003333, 14: 0x44440000, 15: 0x33334444}, **TWICE)
+add("cross_text", "I 4 1", "47f0", at=0xFFE, psw=psw(0, A31 | 0xFFE), mem={0: "0900"}, **TWICE)
+add("cross_text_six_bytes", "H 17 0", "d200", at=0xFFE, psw=psw(0, A31 | 0xFFE))
+add("cross_text_two_bytes", "I 28 1", "0000", at=0xFFE, psw=psw(0, A31 | 0xFFE))
+add("cross_load_host_17", "H 17 0", load(1, 0, 2), **EDGE)
+add("cross_store_host_4", "H 4 0", st(1, 0, 2), **EDGE, host={1: PROTECTED})
+add("cross_store_addressing", "I 8 0", st(1, 0, 2), gr={2: 0xFFFE}, host={15: 0}, control=0x40)
+add("cross_stck", "H 17 0", stck(0, 2), gr={2: 0xFF9})
+add("cross_stck_not", "I 4 1", stck(0, 2) + END, gr={2: 0xFF8})
+add("cross_lctl", "H 17 0", lctl(5, 6, 0, 2), gr={2: 0xFFC})
+add("cross_stctl", "H 4 0", stctl(5, 6, 0, 2), gr={2: 0xFFC}, host={1: PROTECTED})
+stored("cross_text_addressing", 5, 2, text="47f0", at=0xFFE, psw=psw(0, A31 | 0xFFFE), host={15: 0}, old=A31 | 0x10002)
+stored("cross_load_page_invalid", 0x11, text=load(1, 0, 2), old=A31 | TEXT, address=0x1000, gr={2: 0xFFE}, **dat())
+stored("cross_text_page_invalid", 0x11, 2, text="47f0", at=0xFFE, old=A31 | 0xFFE, address=0x1000,
+       **{**dat(), "psw": psw(DAT, A31 | 0xFFE)})
+# A store whose second page is guest-protected stores nothing in the first.
+add("cross_store_nothing", "I 4 4", st(15, 0, 2), gr={2: 0xFFE, 15: 0xFFFFFFFF}, **dat(pages=(0, PROTECTED), mem={
+    0x68: f"{psw(0, A31 | HANDLER):016x}", HANDLER: word(0xFFC, 13) + END}))
+# A store crossing into bytes 0-511 of a page other than page 0 is not a low-address one.
+add("low_address_page_1", "I 4 1", st(15, 0, 2) + END, gr={2: 0xFFE}, cr={0: LOW}, **TWICE)
+add("low_address_crossed_out", "I 8 0", st(15, 0x1FE), cr={0: LOW}, control=0x40)
+
+# Wraps at 2^24 and 2^31. The last guest page before the wrap is frame 0, as page 0 is
+
+TABLE = {4 * 19: hexes(0x40F), 0x7FC: hexes(0)}
+AT24 = {**AWAY, "extent": 256, "designation": 1, "psw": psw(0, TEXT)}
+AT31 = {"frames": 3, "extent": 32768, "designation": 0x107F, "segment": 0}
+HIGH = {0x1000: hexes(0x1F40), 0x1F40: hexes(0), 0x2FFC: hexes(0x180F), 0x1BFC: hexes(0)}
+for name, base, mem, last, where in ("2_24", AT24, TABLE, 0xFFFFFE, 0), ("2_31", AT31, HIGH, 0x7FFFFFFE, A31):
+    add(f"wrap_{name}_load", "I 4 3", word(0, 15, 2) + END, gr={2: last, 15: 0x33334444}, **base,
+        mem={**mem, 0xFFE: "3333", 0: "4444"})
+    add(f"wrap_{name}_store", "I 4 7", st(15, 0, 2) + word(0xFFC, 13) + word(0, 14) + END, **base, mem=mem,
+        gr={2: last, 13: 0x00003333, 14: 0x44440000, 15: 0x33334444})
+    add(f"wrap_{name}_low_address", "I 8 0", st(15, 0, 2), gr={2: last}, cr={0: LOW}, control=0x40, **base, mem=mem)
+    add(f"wrap_{name}_text", "I 4 1", "47f0", at=0xFFE, **{**base, "psw": psw(0, where | last)}, mem={**mem, 0: "0900"})
+    add(f"wrap_{name}_next", "I 4 1", lr(1, 2), at=0xFFE, **{**base, "psw": psw(0, where | last)}, mem={**mem, 0: END})
+    over = 0xFF000000 if where == 0 else A31
+    add(f"wrap_{name}_branch", "I 4 2", bc(15, 0x500, 2) + "0000", gr={2: over, 3: over | OK}, psw=psw(0, where | TEXT),
+        mem={0x500: bcr(15, 3) + "0000"})
+add("no_wrap_2_24_load", "I 8 0", load(1, 0, 2), gr={2: 0xFFFFFE}, control=0x40, mem=TABLE, **{**AT24, "psw": psw()})
+add("no_wrap_2_24_branch", "I 8 1", bc(15, OK, 2), gr={2: 0x01000000}, control=0x40)
+
+# Prefixing
+
+add("prefix_exchanges", "I 4 6", word(0x400, 14) + word(0x400, 15, 2) + END, at=0x1000 | TEXT, prefix=0x1000,
+    gr={2: 0x1000, 14: 5, 15: 6}, mem={0x1400: hexes(5), 0x400: hexes(6)}, **TWO)
+add("prefix_guest_tables", "I 4 0", at=TEXT, prefix=0x1000, psw=psw(DAT), cr={0: FORMAT}, **AWAY, **TWO,
+    mem={0x1000: hexes(0x1C0), 0x11C0: hexes(0x1000)})  # virtual 0 is real 1000 hex, absolute 0
+add("prefix_new_psw", "I 28 1", "0000", at=0x1000 | TEXT, prefix=0x1000, mem={0x68: "", 0x1068: WAITING}, **TWO)
 
 
 def main():
