@@ -140,10 +140,10 @@ def keep(name, line, file):
     CASES[name] = (file, line)
 
 
-def dat(pages=(0, INVALID), segments=(0x1C0, 0x20), flags=0, cr0=FORMAT, cr1=0, **given):
+def dat(pages=(0, INVALID), segments=(0x1C0, 0x20), cr0=FORMAT, cr1=0, **given):
     """DAT on: guest segment table at real 0, page table at 1C0 hex, so that virtual page 0 is real page 0."""
     mem = {0: hexes(*segments), 0x1C0: hexes(*pages), **given.pop("mem", {})}
-    return {**AWAY, "mem": mem, "psw": psw(DAT | flags), "cr": {0: cr0, 1: cr1}, **given}
+    return {**AWAY, "mem": mem, "psw": psw(DAT), "cr": {0: cr0, 1: cr1}, **given}
 
 
 def stored(name, code, ilc=2, old=None, address=0, **given):
@@ -210,7 +210,7 @@ keep("malformed_count_under", "R 9", stop(2, count=1))
 
 # Entry, and code 32 by PSW
 
-for mode in 0x00, 0x04, 0x0C, 0x0A:
+for mode in 0x00, 0x0C, 0x0A:
     add(f"entry_mode_{mode:02x}", "I 32 0", mode=mode)
 add("entry_mode_bits_ignored", "I 4 0", mode=0xF9)
 add("entry_extent_0", "I 32 0", extent=0)
@@ -228,7 +228,7 @@ add("psw_bit_1_by_lpsw", "I 32 1", lpsw(0x400), mem={0x400: f"{psw(0x40000000):0
 
 # Code 4: mandatory, SVC, LPSW, LCTL. Codes 44, 16, 24, 28
 
-for op in 0x8300, 0xAE00, 0xB230, 0xB231, 0xB236, 0xB23B, 0xB23C:
+for op in 0x8300, 0xAE00, 0xB230, 0xB236, 0xB23C:
     add(f"mandatory_{op:04x}", "I 4 0", s(op, 0))
 for op in 0xB22F, 0xB23D:
     add(f"operation_{op:04x}", "I 44 0", s(op, 0), control=0x80)
@@ -243,11 +243,9 @@ add("svc_stored", "I 4 10", svc(0xFE) + "0000", gr={13: 0x00082000, 14: A31 | TE
     mem={0x60: f"{psw(0, A31 | HANDLER):016x}", HANDLER: word(32, 13) + word(36, 14) + word(136, 15) + END})
 add("lpsw_by_control", "I 4 0", lpsw(0x60), control=0x20)
 add("lpsw_by_control_unaligned", "I 4 0", lpsw(0x64), control=0xE0)
-add("lctl_first_register", "I 4 0", lctl(5, 7, 0x400), lctl=0x0400)
 add("lctl_last_register", "I 4 0", lctl(5, 7, 0x400), lctl=0x0100)
 add("lctl_register_after", "I 28 2", lctl(5, 7, 0x400) + "0000", lctl=0xF8FF)
 add("lctl_over_15_to_0", "I 4 0", lctl(15, 0, 0x400), lctl=0x8000)
-add("lctl_over_15_not_1", "I 28 2", lctl(15, 0, 0x400) + "0000", lctl=0x7FFE)
 add("lctl_before_alignment", "I 4 0", lctl(5, 5, 0x401), lctl=0x0400, control=0x40)
 add("code_44", "I 44 0", "0000", control=0x80)
 add("code_44_before_8", "I 44 0", "ff0000000000", control=0xC0)
@@ -268,6 +266,7 @@ for name, line, given in [
     ("epoch_carry_equal", "I 4 0", dict(clock=-1, epoch=2, comparator=1)),
     ("epoch_carry_greater", "I 20 0", dict(clock=-1, epoch=2, comparator=0)),
     ("after_three_units", "I 20 3", dict(text=bc(15, TEXT), clock=1, time=3, comparator=7)),
+    ("clock_wraps", "B 0 2", dict(text=bc(15, TEXT), clock=-1, comparator=-1, budget=2)),
     ("cr0_zero", "I 4 0", dict(clock=1, cr={0: TIMER})),
     ("psw_bit_7_zero", "I 4 0", dict(clock=1, psw=psw(IO))),
 ]:
@@ -275,7 +274,6 @@ for name, line, given in [
 for name, line, given in [
     ("negative", "I 20 0", dict(timer=-1)),
     ("zero", "I 4 0", dict(timer=0)),
-    ("lowest", "I 20 0", dict(timer=-2 ** 63)),
     ("falls_to_0_then_below", "I 20 2", dict(text=bc(15, TEXT), timer=5, time=5)),
     ("wraps", "I 4 1", dict(text=lctl(0, 0, 0x400) + END, mem={0x400: hexes(TIMER)}, timer=-2 ** 63, cr={})),
     ("enabled_by_lctl", "I 20 1", dict(text=lctl(0, 0, 0x400) + END, mem={0x400: hexes(TIMER)}, timer=-1, cr={})),
@@ -313,18 +311,17 @@ exception("low_address", 4, text=st(1, 0x1FF), cr={0: LOW})
 exception("addressing", 5, text=load(1, 0, 2), gr={2: 0x10000})
 stored("addressing_text", 5, 1, psw=psw(0, A31 | 0x10000), old=A31 | 0x10002)
 exception("odd_address", 6, 1, psw=psw(0, A31 | 0x201), old=A31 | 0x203)
+stored("odd_address_over_2_24", 6, 1, psw=psw(0, 0x00FFFFFF), old=1)
+stored("odd_address_over_2_31", 6, 1, psw=psw(0, 0xFFFFFFFF), old=A31 | 1)
 exception("alignment", 6, text=lpsw(0x404))
 exception("malformed_psw", 6, 0, psw=psw(0x00080000))
 exception("overflow", 8, 1, text=ar(1, 2), gr={1: 0x7FFFFFFF, 2: 1}, psw=psw(OVERFLOW))
 exception("segment_invalid", 0x10, old=A31 | TEXT, address=SPOT, text=load(1, 4, 2), gr={2: SPOT}, **dat())
 exception("page_invalid", 0x11, old=A31 | TEXT, address=0x1000, text=load(1, 0, 2), gr={2: 0x1ABC}, **dat())
 exception("translation_page_bit_20", 0x12, text=load(1, 0, 2), gr={2: 0x1000}, **dat(pages=(0, 0x800)))
-
-
 stored("operation_length_2", 1, 2, text="40000000")
 stored("operation_length_3", 1, 3, text="d20000000000")
-for op, name in (0xB208, "spt"), (0xB209, "stpt"), (0xB600, "stctl"), (0xB700, "lctl"), (0x8300, "diagnose"), (0xAE00, "sigp"), \
-        (0xB230, "b230"):
+for op, name in (0xB208, "spt"), (0xB209, "stpt"), (0xB600, "stctl"), (0xB700, "lctl"), (0x8300, "diagnose"), (0xAE00, "sigp"):
     add(f"problem_state_{name}", "I 8 0", s(op, 0x400), psw=psw(PROBLEM), control=0x60, lctl=0xFFFF)
 add("problem_state_lpsw_control", "I 8 0", lpsw(0x60), psw=psw(PROBLEM), control=0x60)
 add("problem_state_stck", "I 4 1", stck(0x400) + svc(1), psw=psw(PROBLEM), svc=0x80000000)
@@ -336,8 +333,10 @@ for n, second in (33, 0x40000200), (39, 0x01000200):
     add(f"malformed_psw_bit_{n}", "I 8 0", psw=psw(0, second), control=0x40)
 add("malformed_psw_by_lpsw", "I 28 2", lpsw(0x400), mem={0x400: f"{psw(0x00080000):016x}"})
 stored("psw_bit_40_in_24_bit_mode", 5, 1, psw=psw(0, 0x00800000), old=0x00800002)  # well formed, but beyond the extent
+stored("fetch_override_not_applied", 4, 1, psw=psw(0x00100000), keys=[0x28], cr={0: 0x02000000})
 stored("key_fetch", 4, text=load(1, 0, 2), gr={2: 0x1000}, psw=psw(0x00100000), keys=[0x10, 0x28], **TWO)
 stored("overflow_sr", 8, 1, text=sr(1, 2), gr={1: 0x80000000, 2: 1}, psw=psw(OVERFLOW))
+stored("segment_invalid_text", 0x10, 1, old=A31 | SPOT, address=SPOT, **{**dat(), "psw": psw(DAT, A31 | SPOT)})
 stored("segment_length", 0x10, old=A31 | TEXT, address=0x01000000, text=load(1, 0, 2), gr={2: 0x01000000}, **dat())
 # Address 00FFFFFF hex passes the segment length test; the entry at 60 is zero, a page table of length 0.
 stored("segment_length_last", 0x11, old=A31 | TEXT, address=0x00FFF000, text=load(1, 0, 2), gr={2: 0x00FFFFFF}, **dat())
@@ -346,7 +345,8 @@ stored("translation_cr0", 0x12, 1, **dat(cr0=0x00B80000))
 stored("translation_segment_bit_0", 0x12, text=load(1, 0, 2), gr={2: SPOT}, **dat(segments=(0x1C0, 0x800001C0)))
 stored("translation_page_bit_0", 0x12, text=load(1, 0, 2), gr={2: 0x1000}, **dat(pages=(0, 0x80000000)))
 stored("translation_page_bit_23", 0x12, text=load(1, 0, 2), gr={2: 0x1000}, **dat(pages=(0, 0x100)))
-stored("invalid_before_bit_20", 0x11, old=A31 | TEXT, address=0x1000, text=load(1, 0, 2), gr={2: 0x1000}, **dat(pages=(0, 0xC00)))
+stored("invalid_before_bit_20", 0x11, old=A31 | TEXT, address=0x1000, text=load(1, 0, 2), gr={2: 0x1000},
+       **dat(pages=(0, 0xC00)))
 stored("addressing_segment_table", 5, 1, **dat(cr1=0x10000))
 stored("addressing_page_table", 5, text=load(1, 0, 2), gr={2: SPOT}, **dat(segments=(0x1C0, 0x10000)))
 stored("addressing_by_dat", 5, text=load(1, 0, 2), gr={2: 0x1000}, **dat(pages=(0, 0x10000)))
@@ -361,14 +361,13 @@ add("low_address_not_interruptions", "I 28 1", "0000", cr={0: LOW})
 add("operation_before_privileged", "I 44 0", "b2040000", psw=psw(PROBLEM), control=0xC0)
 add("key_0_stores", "I 4 1", st(1, 0x400) + END, keys=[0x28])
 add("key_equal_stores", "I 4 1", st(1, 0x400) + END, psw=psw(0x00200000), keys=[0x28])
-add("key_fetch_allowed", "I 4 1", load(1, 0x400) + END, psw=psw(0x00100000), keys=[0x20])
+add("guest_entry_bits_ignored", "I 4 0", **dat(pages=(0xFF,), segments=(0x1D0,), cr1=0x80000F80))
 add("page_protected_fetch", "I 4 1", load(1, 0x400, 2) + END, gr={2: 0x1000}, **dat(pages=(0, PROTECTED)))
 
 # Host faults: at SPOT, by text, operand, guest table entry and prefix area
 
-PAST = 0x10000  # a frame past the storage
-FAULTS = {4: PROTECTED, 5: PAST, 16: None, 17: INVALID, 18: 0x800}
-for code, entry in FAULTS.items():
+FAULTS = {4: PROTECTED, 5: FRAME, 16: None, 17: INVALID, 18: 0x800}
+for code, entry in FAULTS.items():  # FRAME is one frame past the storage
     reach = {"spot": entry, "extent": 17}
     line = f"H {code} 0"
     if code != 4:
@@ -378,11 +377,12 @@ for code, entry in FAULTS.items():
     add(f"host_{code}_prefix_program", line, "0000", psw=psw(0, A31 | SPOT | TEXT), prefix=SPOT, **reach)
     if code in (4, 17):
         add(f"host_{code}_store", line, st(1, 0, 2), gr={2: SPOT}, **reach)
-        add(f"host_{code}_prefix_svc", line, svc(1), psw=psw(0, A31 | SPOT | TEXT), prefix=SPOT, **reach)
+add("host_4_prefix_svc", "H 4 0", svc(1), psw=psw(0, A31 | SPOT | TEXT), prefix=SPOT, spot=PROTECTED, extent=17)
 add("host_17_page_entry", "H 17 0", **dat(segments=(SPOT,), spot=INVALID, extent=17))
 add("host_18_page_entry", "H 18 0", **dat(segments=(SPOT,), spot=0x100, extent=17))
 add("host_protected_load", "I 4 1", load(1, 0, 2) + END, gr={2: SPOT}, spot=PROTECTED, extent=17)
-add("host_protected_code_8", "I 8 0", "0000", psw=psw(0, A31 | SPOT | TEXT), prefix=SPOT, spot=PROTECTED, extent=17, control=0x40)
+add("host_protected_code_8", "I 8 0", "0000", psw=psw(0, A31 | SPOT | TEXT), prefix=SPOT, spot=PROTECTED, extent=17,
+    control=0x40)
 add("host_16_length", "H 16 0", origin=256)
 add("host_17_length", "H 17 0", psw=psw(0, A31 | 0x10000), extent=2)
 add("host_18_segment_bit_0", "H 18 0", segment=0x80000F40)
@@ -394,13 +394,18 @@ add("host_5_segment_table", "H 5 0", designation=0x1000)
 add("host_5_page_table", "H 5 0", segment=0x1000)
 add("host_origin", "I 4 0", origin=16, host={0: INVALID}, spot=0)
 add("host_designation_bits_ignored", "I 4 0", designation=0x80000F80)
+add("host_entry_bits_ignored", "I 4 0", segment=0xF50, host={0: 0xFF})
+add("st_into_host_table", "I 4 2", st(15, 0xF44) + load(1, 0, 2) + END, gr={2: 0x1000})
+# The old PSW goes over the host segment entry at 40, whose page table then lies past the storage: felt in the next unit.
+add("interruption_over_host_table", "H 5 1", "0000", origin=160, first=10, mem={0x68: f"{psw():016x}"})
 add("host_17_before_page_protection", "H 17 0", st(1, 0, 2), gr={2: 0x1000}, **dat(pages=(0, 0x1000 | PROTECTED)))
 add("page_protection_before_host_4", "I 8 0", st(1, 0, 2), gr={2: 0x1000}, host={1: PROTECTED}, control=0x40,
     **dat(pages=(0, 0x1000 | PROTECTED)))
 add("key_before_host_4", "I 8 0", st(1, 0, 2), gr={2: SPOT}, spot=PROTECTED, extent=17, psw=psw(0x00100000), keys=[0x20],
     control=0x40)
 add("host_17_before_key", "H 17 0", st(1, 0, 2), gr={2: 0x1000}, psw=psw(0x00100000), keys=[0x20])
-add("extent_before_origin", "I 8 1", lr(1, 3) + load(1, 0, 2), gr={2: 0x10000}, origin=16, host={0: INVALID}, spot=0, control=0x40)
+add("extent_before_origin", "I 8 1", lr(1, 3) + load(1, 0, 2), gr={2: 0x10000}, origin=16, host={0: INVALID}, spot=0,
+    control=0x40)
 
 # Instructions
 
@@ -430,9 +435,8 @@ add("la_31", "I 4 12", la(1, 0xFFF, 2, 3) + same(1, 15) + la(1, 0xFFF) + same(1,
 add("la_24", "I 4 6", la(1, 1, 2) + same(1, 15) + la(1, 0, 3) + same(1, 14) + END, psw=psw(0, TEXT),
     gr={2: 0x00FFFFFF, 15: 0, 3: 0xFF123456, 14: 0x123456})
 add("st_and_l", "I 4 4", st(15, 0x400) + word(0x400, 15) + END, gr={15: 0x89ABCDEF})
-add("st_unaligned", "I 4 7", st(2, 0x401) + word(0x400, 14) + word(0x404, 15) + END,
+add("unaligned", "I 4 10", st(2, 0x401) + word(0x400, 14) + word(0x404, 15) + word(0x401, 2) + END,
     gr={2: 0x89ABCDEF, 14: 0x0089ABCD, 15: 0xEF000000})
-add("l_unaligned", "I 4 3", word(0x401, 15) + END, gr={15: 0xABCDEF01}, mem={0x400: "89abcdef01"})
 add("st_into_guest_table", "I 8 2", load(1, 0, 2) + st(15, 0x1C4) + load(1, 0, 2), gr={2: 0x1000, 15: INVALID}, control=0x40,
     **dat(pages=(0, 0)))
 add("st_into_text", "I 4 1", st(1, TEXT + 4) + "0000", gr={1: 0x83000000})
@@ -441,8 +445,8 @@ add("stctl", "I 4 7", stctl(5, 6, 0x400) + word(0x400, 14) + word(0x404, 15) + E
 add("stctl_over_15_to_0", "I 4 7", stctl(15, 0, 0x400) + word(0x400, 14) + word(0x404, 15) + END, cr={15: 1, 0: 2},
     gr={14: 1, 15: 2})
 add("lctl", "I 4 5", lctl(6, 7, 0x400) + stctl(7, 7, 0x500) + word(0x500, 15) + END, mem={0x400: hexes(1, 2)}, gr={15: 2})
-add("lctl_all", "I 4 5", lctl(1, 0, 0x400) + stctl(15, 15, 0x500) + word(0x500, 15) + END,
-    mem={0x400: hexes(*range(1, 16), 0)}, gr={15: 15})
+add("lctl_all", "I 4 8", lctl(1, 0, 0x400) + stctl(15, 0, 0x500) + word(0x500, 14) + word(0x504, 15) + END,
+    mem={0x400: hexes(*range(1, 16), 0x55)}, gr={14: 15, 15: 0x55})
 add("stck", "I 4 8", stck(0x401) + need(8) + word(0x401, 14) + word(0x405, 15) + END, clock=0x1122334455667788,
     epoch=0x1000000010, psw=psw(0x3000), gr={14: 0x11223354, 15: 0x55667798})
 add("stck_second_unit", "I 4 5", lr(2, 3) + stck(0x400) + word(0x404, 15) + END, clock=5, epoch=2, time=10, gr={15: 17})
@@ -478,7 +482,6 @@ add("cross_store_nothing", "I 4 4", st(15, 0, 2), gr={2: 0xFFE, 15: 0xFFFFFFFF},
     0x68: f"{psw(0, A31 | HANDLER):016x}", HANDLER: word(0xFFC, 13) + END}))
 # A store crossing into bytes 0-511 of a page other than page 0 is not a low-address one.
 add("low_address_page_1", "I 4 1", st(15, 0, 2) + END, gr={2: 0xFFE}, cr={0: LOW}, **TWICE)
-add("low_address_crossed_out", "I 8 0", st(15, 0x1FE), cr={0: LOW}, control=0x40)
 
 # Wraps at 2^24 and 2^31. The last guest page before the wrap is frame 0, as page 0 is
 
@@ -497,6 +500,9 @@ for name, base, mem, last, where in ("2_24", AT24, TABLE, 0xFFFFFE, 0), ("2_31",
     over = 0xFF000000 if where == 0 else A31
     add(f"wrap_{name}_branch", "I 4 2", bc(15, 0x500, 2) + "0000", gr={2: over, 3: over | OK}, psw=psw(0, where | TEXT),
         mem={0x500: bcr(15, 3) + "0000"})
+# The entry of segment 2047 would be at 80000FFC hex, past the extent.
+stored("no_wrap_2_31_table", 5, 1, old=0xFFF00002, cr={0: FORMAT, 1: 0x7FFFF07F}, mem=HIGH,
+       **{**AT31, "psw": psw(DAT, 0xFFF00000)})
 add("no_wrap_2_24_load", "I 8 0", load(1, 0, 2), gr={2: 0xFFFFFE}, control=0x40, mem=TABLE, **{**AT24, "psw": psw()})
 add("no_wrap_2_24_branch", "I 8 1", bc(15, OK, 2), gr={2: 0x01000000}, control=0x40)
 

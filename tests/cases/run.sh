@@ -8,10 +8,10 @@ KEPT=tests/cases/files
 OUT=target/cases
 rm -rf "$OUT"
 python3 tests/cases/make.py "$OUT"
-diff -rq "$OUT" "$KEPT"
-cmp crates/case/stdin "$KEPT/stop.in"
 count=0
 differ=0
+diff -rq "$OUT" "$KEPT" >&2 || differ=$((differ + 1))
+cmp crates/case/stdin "$KEPT/stop.in" || differ=$((differ + 1))
 for file in "$KEPT"/*.in; do
     name=$(basename "$file" .in)
     got=$OUT/$name.got
