@@ -2,16 +2,8 @@
 # Machine instructions a unit, counted by callgrind: repeatable, whatever else the machine does. Needs valgrind and the static library.
 set -eu
 cd "$(dirname "$0")"
-CC=${CC:-gcc}
-LIB=${LIB:-../target/staticlib/libdrevokas.a}
-OUT=../target/c
-
-if [ ! -f "$LIB" ]; then
-    echo "bench/count.sh: no $LIB; build the static library first" >&2
-    exit 1
-fi
-mkdir -p "$OUT"
-"$CC" -std=c99 -Wall -Wextra -Werror -pedantic -O2 -o "$OUT/bench_run" bench_run.c plain.c "$LIB"
+. ./library.sh
+build bench_run
 
 instructions() { # CASE FRAMES WHO UNITS
     valgrind --tool=callgrind --callgrind-out-file=/dev/null "$OUT/bench_run" "$@" 2>&1 | sed -n 's/.*refs: *//p' | tr -d ,

@@ -3,7 +3,7 @@
 use Prim.Native.Nat.{ℕ, zero, suc, _+_, _-_, _^_, _≤_, _<_}
 use native.Mathlib.Omega.{arith}
 use mathlib.Core.Path.{_≡_, refl, ap, sym, subst, _∙_}
-use mathlib.Core.Bool.{Bool, true, false, cond}
+use mathlib.Core.Bool.{true, false}
 use mathlib.Core.List.{List, [], _∷_}
 use lib.ListN.{length, length-set, getD, set}
 use Rattle.machine.specs.declared.Cpu.{Cpu}
@@ -20,14 +20,12 @@ use Rattle.machine.specs.Run.{Machine, Ended as Run, hostOf, unitFrom, behindOf
 use Rattle.machine.proofs.Laws.{guest-of-withCpu}
 use Rattle.machine.proofs.Lens.{Sixteen, Bounded, cpu-of-withCpu, withCpu-withCpu}
 use Rattle.machine.proofs.Runs.{more}
+use Rattle.execute.proofs.Reaching.{not-both}
 use Rattle.execute.specs.declared.Done.{Done}
 use Rattle.execute.specs.declared.Event.{Event}
 use Rattle.execute.specs.After.{eventOf, cpuAfter, storageAfter, keysAfter, leftBy, Left}
 use Rattle.run.specs.declared.Ended.{Ended}
 use Rattle.run.specs.Running.{isCompleted, endOf, machineAt, Ends}
-
-not-both : {R : Type 0} {b : Bool} → b ≡ true → b ≡ false → R
-not-both yea nay = let z : _≡_ {A = ℕ} 0 1 = ap (λ b. cond b 0 1) (sym yea ∙ nay) in absurd (omega arith)
 
 suc-is-one-more : (u : ℕ) → suc u ≡ 1 + u
 suc-is-one-more u = omega arith
@@ -36,8 +34,8 @@ suc-is-one-more u = omega arith
 abbrev stopped : Event → Cpu → Ended
 stopped ended c = record { end = endOf ended; cpu = c; units = 0 }
 
-module _ (n : Numbers) (d : List ℕ) {g : Guest} (long : length d ≡ 200) (here : guestOf d ≡ g) (c : Cpu) (bounded : Bounded c) (clock : ℕ) (storage keys : List ℕ)
-    (to : Cpu) (lasting : Bounded to) (s k : List ℕ) where
+module _ (n : Numbers) (d : List ℕ) {g : Guest} (long : length d ≡ 200) (here : guestOf d ≡ g) (c : Cpu) (bounded : Bounded c) (clock : ℕ)
+    (storage keys : List ℕ) where
   abbrev h : Host
   h = host (n .designation) storage keys
 
@@ -51,61 +49,62 @@ module _ (n : Numbers) (d : List ℕ) {g : Guest} (long : length d ≡ 200) (her
   unfolding unitFrom hostOf
   unit-here = λ i. unit (guest-here i) clock (view (guest-here i) h) (cpu-of-withCpu c d long bounded i)
 
-  -- the state put into the record a second time
-  again : (j : Cpu) → j ≡ to → withCpu j (withCpu c d) ≡ withCpu to d
-  again j same =
-      ap (λ j. withCpu j (withCpu c d)) same
-      ∙ withCpu-withCpu c to d (bounded .control .long ∙ sym (lasting .control .long)) (bounded .general .long ∙ sym (lasting .general .long))
+  module _ (to : Cpu) (lasting : Bounded to) (s k : List ℕ) where
+    -- the state put into the record a second time
+    again : (j : Cpu) → j ≡ to → withCpu j (withCpu c d) ≡ withCpu to d
+    again j same =
+        ap (λ j. withCpu j (withCpu c d)) same
+        ∙ withCpu-withCpu c to d (bounded .control .long ∙ sym (lasting .control .long)) (bounded .general .long ∙ sym (lasting .general .long))
 
-  module _ (e : Event) (b : ℕ) where
-    -- a completed unit, and the rest of the run behind it
-    goes-on : (o : Outcome) → e ≡ eventOf o → isCompleted e ≡ true → to ≡ charged (cpuAfter c o) (n .time)
-        → s ≡ storageAfter (backing g h) o storage → k ≡ keysAfter (backing g h) o keys
-        → onward (run b n) (stepOf n m o) ≡ more 1 (run b n (machineAt d to (clockAfter clock (n .time)) s k))
-    unfolding eventOf isCompleted cpuAfter storageAfter keysAfter onward stepOf counted afterUnit behindOf hostOf
-    goes-on (completed c′ effects) ended whole state bytes marks =
-        let same : afterUnit n m c′ effects ≡ machineAt d to (clockAfter clock (n .time)) s k =
-        λ i. record {
-          description = again (charged c′ (n .time)) (sym state) i;
-          clock = clockAfter clock (n .time);
-          storage = ((λ j. stored (backing (guest-here j) h) (effects .stores) storage) ∙ sym bytes) i;
-          keys = ((λ j. markedBy (backing (guest-here j) h) effects keys) ∙ sym marks) i;
-        }
-        in
-        ap counted (ap (run b n) same) ∙ (λ i. record {
-          end = run b n (machineAt d to (clockAfter clock (n .time)) s k) .end;
-          units = suc-is-one-more (run b n (machineAt d to (clockAfter clock (n .time)) s k) .units) i;
-          machine = run b n (machineAt d to (clockAfter clock (n .time)) s k) .machine;
-        })
-    goes-on (intercepted r c′) ended whole state bytes marks = not-both whole (ap isCompleted ended)
-    goes-on (faulted f) ended whole state bytes marks = not-both whole (ap isCompleted ended)
+    module _ (e : Event) (b : ℕ) where
+      -- a completed unit, and the rest of the run behind it
+      goes-on : (o : Outcome) → e ≡ eventOf o → isCompleted e ≡ true → to ≡ charged (cpuAfter c o) (n .time)
+          → s ≡ storageAfter (backing g h) o storage → k ≡ keysAfter (backing g h) o keys
+          → onward (run b n) (stepOf n m o) ≡ more 1 (run b n (machineAt d to (clockAfter clock (n .time)) s k))
+      unfolding eventOf isCompleted cpuAfter storageAfter keysAfter onward stepOf counted afterUnit behindOf hostOf
+      goes-on (completed c′ effects) ended whole state bytes marks =
+          let same : afterUnit n m c′ effects ≡ machineAt d to (clockAfter clock (n .time)) s k =
+          λ i. record {
+            description = again (charged c′ (n .time)) (sym state) i;
+            clock = clockAfter clock (n .time);
+            storage = ((λ j. stored (backing (guest-here j) h) (effects .stores) storage) ∙ sym bytes) i;
+            keys = ((λ j. markedBy (backing (guest-here j) h) effects keys) ∙ sym marks) i;
+          }
+          in
+          ap counted (ap (run b n) same) ∙ (λ i. record {
+            end = run b n (machineAt d to (clockAfter clock (n .time)) s k) .end;
+            units = suc-is-one-more (run b n (machineAt d to (clockAfter clock (n .time)) s k) .units) i;
+            machine = run b n (machineAt d to (clockAfter clock (n .time)) s k) .machine;
+          })
+      goes-on (intercepted r c′) ended whole state bytes marks = not-both whole (ap isCompleted ended)
+      goes-on (faulted f) ended whole state bytes marks = not-both whole (ap isCompleted ended)
 
-    -- an exit
-    stops-at : (o : Outcome) → e ≡ eventOf o → isCompleted e ≡ false → to ≡ cpuAfter c o → s ≡ storageAfter (backing g h) o storage → k ≡ keysAfter (backing g h) o keys
-        → Ends (onward (run b n) (stepOf n m o)) d (stopped e to) s k
-    unfolding eventOf isCompleted endOf cpuAfter storageAfter keysAfter onward stepOf afterInterception
-    stops-at (completed c′ effects) ended exits state bytes marks = not-both (ap isCompleted ended) exits
-    stops-at (intercepted r c′) ended exits state bytes marks = record {
-      end = sym (ap endOf ended);
-      units = refl;
-      description = again c′ (sym state);
-      bytes = sym bytes;
-      marks = sym marks;
-    }
-    stops-at (faulted f) ended exits state bytes marks = record {
-      end = sym (ap endOf ended);
-      units = refl;
-      description = ap (λ j. withCpu j d) (sym state);
-      bytes = sym bytes;
-      marks = sym marks;
-    }
+      -- an exit
+      stops-at : (o : Outcome) → e ≡ eventOf o → isCompleted e ≡ false → to ≡ cpuAfter c o → s ≡ storageAfter (backing g h) o storage → k ≡ keysAfter (backing g h) o keys
+          → Ends (onward (run b n) (stepOf n m o)) d (stopped e to) s k
+      unfolding eventOf isCompleted endOf cpuAfter storageAfter keysAfter onward stepOf afterInterception
+      stops-at (completed c′ effects) ended exits state bytes marks = not-both (ap isCompleted ended) exits
+      stops-at (intercepted r c′) ended exits state bytes marks = record {
+        end = sym (ap endOf ended);
+        units = refl;
+        description = again c′ (sym state);
+        bytes = sym bytes;
+        marks = sym marks;
+      }
+      stops-at (faulted f) ended exits state bytes marks = record {
+        end = sym (ap endOf ended);
+        units = refl;
+        description = ap (λ j. withCpu j d) (sym state);
+        bytes = sym bytes;
+        marks = sym marks;
+      }
 
 -- what is left to run, from here, is what was left at the start
-abbrev pub Remains : Numbers → List ℕ → ℕ → Machine → ℕ → Machine → Type 0
-Remains n d budget start units here = run budget n start ≡ more units (run (budget - units) n here)
+abbrev pub Remains : Numbers → ℕ → Machine → ℕ → Machine → Type 0
+Remains n budget start units here = run budget n start ≡ more units (run (budget - units) n here)
 
-pub remains-start : (n : Numbers) (d : List ℕ) (budget : ℕ) (start : Machine) → Remains n d budget start 0 start
-remains-start n d budget start =
+pub remains-start : (n : Numbers) (budget : ℕ) (start : Machine) → Remains n budget start 0 start
+remains-start n budget start =
     (λ i. record {
       end = run budget n start .end;
       units = none-on-top (run budget n start .units) i;
@@ -133,7 +132,7 @@ ends-more u e r ends sum = record {
 module _ (n : Numbers) (d : List ℕ) {g : Guest} (long : length d ≡ 200) (here : guestOf d ≡ g) (budget : ℕ) (start : Machine) (units : ℕ) (c : Cpu) (clock : ℕ)
     (storage keys : List ℕ) where
   -- the budget is used
-  pub budget-ends : units ≤ budget → budget ≤ units → Remains n d budget start units (machineAt d c clock storage keys)
+  pub budget-ends : units ≤ budget → budget ≤ units → Remains n budget start units (machineAt d c clock storage keys)
       → Ends (run budget n start) d (record { end = end.BudgetUsed; cpu = c; units = units }) storage keys
   unfolding run
   budget-ends within used remains =
@@ -146,25 +145,25 @@ module _ (n : Numbers) (d : List ℕ) {g : Guest} (long : length d ≡ 200) (her
 
   module _ (bounded : Bounded c) {designation : ℕ} (designated : n .designation ≡ designation) (done : Done) (s k : List ℕ)
       (left : Left (host designation storage keys) g c (unit g clock (view g (host designation storage keys)) c) done s k) (more-left : suc units ≤ budget)
-      (remains : Remains n d budget start units (machineAt d c clock storage keys)) where
+      (remains : Remains n budget start units (machineAt d c clock storage keys)) where
     left-here : Left (host (n .designation) storage keys) g c (unit g clock (view g (host (n .designation) storage keys)) c) done s k
     left-here = subst (λ u. Left (host u storage keys) g c (unit g clock (view g (host u storage keys)) c) done s k) (sym designated) left
 
     one-left : budget - units ≡ suc (budget - suc units)
     one-left = omega arith
 
-    here-again : Remains n d budget start units (machineAt d c clock storage keys)
+    here-again : Remains n budget start units (machineAt d c clock storage keys)
         → run budget n start ≡ more units (run (suc (budget - suc units)) n (machineAt d c clock storage keys))
     here-again remains = remains ∙ ap (λ b. more units (run b n (machineAt d c clock storage keys))) one-left
 
     unit-first : run (suc (budget - suc units)) n (machineAt d c clock storage keys)
         ≡ onward (run (budget - suc units) n) (stepOf n (machineAt d c clock storage keys) (unit g clock (view g (host (n .designation) storage keys)) c))
     unfolding run step
-    unit-first = ap (λ o. onward (run (budget - suc units) n) (stepOf n (machineAt d c clock storage keys) o)) (unit-here n d long here c bounded clock storage keys c bounded s k)
+    unit-first = ap (λ o. onward (run (budget - suc units) n) (stepOf n (machineAt d c clock storage keys) o)) (unit-here n d long here c bounded clock storage keys)
 
     -- a completed unit
     pub one-more : isCompleted (done .event) ≡ true → (to : Cpu) → Bounded to → to ≡ charged (leftBy c done) (n .time) → (later : ℕ) → later ≡ clockAfter clock (n .time)
-        → Remains n d budget start (units + 1) (machineAt d to later s k)
+        → Remains n budget start (units + 1) (machineAt d to later s k)
     one-more whole to lasting state later advanced =
         here-again remains
         ∙ ap (more units)
@@ -199,9 +198,9 @@ module _ (n : Numbers) (d : List ℕ) {g : Guest} (long : length d ≡ 200) (her
         (omega arith))
 
 -- the end of an exit, by another name
-pub exit-ended : (n : Numbers) (d : List ℕ) {e : Run} {c : Cpu} {units : ℕ} {how why : End} {s k : List ℕ} → Ends e d (record { end = how; cpu = c; units = units }) s k → why ≡ how
+pub exit-ended : (d : List ℕ) {e : Run} {c : Cpu} {units : ℕ} {how why : End} {s k : List ℕ} → Ends e d (record { end = how; cpu = c; units = units }) s k → why ≡ how
     → Ends e d (record { end = why; cpu = c; units = units }) s k
-exit-ended n d ends same = record {
+exit-ended d ends same = record {
   end = ends .end ∙ sym same;
   units = ends .units;
   description = ends .description;

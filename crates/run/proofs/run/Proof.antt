@@ -21,7 +21,7 @@ abbrev Inv-loop : tie.InvT-loop
 Inv-loop storage₀ keys₀ designation guest clock time budget cpu₀ now₀ units₀ storage keys cpu now units =
     (units ≤ budget) × (length storage ≡ length storage₀) × (length keys ≡ length keys₀) × Bounded cpu
     × ((n : Numbers) (d : List ℕ) → n .designation ≡ designation → n .time ≡ time → length d ≡ 200 → guestOf d ≡ guest
-    → Remains n d budget (machineAt d cpu₀ now₀ storage₀ keys₀) units (machineAt d cpu now storage keys))
+    → Remains n budget (machineAt d cpu₀ now₀ storage₀ keys₀) units (machineAt d cpu now storage keys))
 
 abbrev μ-loop : tie.MeasureT-loop
 μ-loop storage₀ keys₀ designation guest clock time budget cpu₀ now₀ units₀ storage keys cpu now units =
@@ -39,7 +39,7 @@ loop-holds c = (
     control = record { long = search needs; small = λ i. let fits : Fits w32 (getD (c .before .before .args .start .control .words) i 0) = search needs in fits .fits };
     general = record { long = search needs; small = λ i. let fits : Fits w32 (getD (c .before .before .args .start .general .words) i 0) = search needs in fits .fits };
   },
-  λ n d designated timed long here. remains-start n d _ _,
+  λ n d designated timed long here. remains-start n _ _,
 )
 
 unit-requires : tie.Need-unit-requires Inv-loop μ-loop
@@ -112,7 +112,7 @@ returns c =
     let a = back15 .args in
     let inv = back12 .loop .inv in
     λ n d designated timed long here.
-    exit-ended n d (exit-ends n d long here (a .budget) _ (back12 .loop .units) (back12 .loop .cpu) (back12 .loop .now) (back12 .loop .storage) (back12 .loop .keys) (inv .3) designated
+    exit-ended d (exit-ends n d long here (a .budget) _ (back12 .loop .units) (back12 .loop .cpu) (back12 .loop .now) (back12 .loop .storage) (back12 .loop .keys) (inv .3) designated
     (back8 .unit .result) _ _ (back8 .unit .ensures) (back11 .loop-test .taken) (inv .4 n d designated timed long here) (sym (c .before .before .completed .ensures) ∙ c .before .if1 .left)
     (c .before .before .before .state-after .result) (c .before .before .before .state-after .ensures .1) (c .before .before .before .state-after .ensures .0)) (c .end-of .ensures)
 
