@@ -1,7 +1,7 @@
 // The guest's side of an address: prefixing, guest tables, protection, and where a byte or an operand stands in host storage.
 // Each contract equates with machine's Addresses.
 ghost use mathlib.Core.Path.{_≡_};
-ghost use mathlib.Core.Bool.{Bool, _&&_};
+ghost use mathlib.Core.Bool.{_&&_};
 ghost use mathlib.Core.List.{List};
 ghost use Prim.Native.Nat.{ℕ, _%_, _≤_, _<_};
 ghost use lib.ListN.{length};
@@ -52,7 +52,7 @@ fn both(x: bool, y: bool) -> bool
 }
 
 // Prefixing exchanges real block 0 and the prefix block.
-fn prefixed(guest: Guest, a: u32) -> u32
+pub fn prefixed(guest: Guest, a: u32) -> u32
     requires { ⌜ Entered guest ⌝ }
     ensures { λ r. ⌜ r ≡ prefixed guest a ⌝ }
 {
@@ -79,7 +79,7 @@ fn guest_entry(storage: &[u8], designation: u32, guest: Guest, real: u32) -> Tab
 }
 
 // The guest table entry at the address that a step led to.
-fn read_through(storage: &[u8], designation: u32, guest: Guest, e: TableEntry) -> TableEntry
+pub fn read_through(storage: &[u8], designation: u32, guest: Guest, e: TableEntry) -> TableEntry
     requires { ⌜ Entered guest × Aligned e ⌝ }
     ensures { λ r. ⌜ ((k : List ℕ) → r ≡ readThrough (guestEntry guest (view guest (host designation (now (storage .entry)) k))) e) ⌝ }
 {

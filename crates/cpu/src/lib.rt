@@ -3,7 +3,7 @@
 ghost use mathlib.Core.Path.{_≡_};
 ghost use mathlib.Core.Bool.{_&&_, _||_};
 ghost use Prim.Native.Nat.{ℕ, _≤_, _<_};
-ghost use lib.Dec.{eqb};
+ghost use lib.Dec.{eqb, ltb};
 ghost use Rattle.machine.specs.declared.Cpu.{Cpu};
 ghost use Rattle.machine.specs.Words.{bit};
 ghost use Rattle.machine.specs.Psw.{ioEnabled, externalEnabled, waiting, problemState, conditionCode, overflowEnabled, instructionAddress, notInstalled, malformed, wrap, withAddress, advanced, withConditionCode};
@@ -140,7 +140,7 @@ pub fn instruction_address(psw: Psw) -> u32
 }
 
 // A logical address, cut to the addressing mode.
-fn wrapped(psw: Psw, a: u64) -> u32
+pub fn wrapped(psw: Psw, a: u64) -> u32
     ensures { λ r. ⌜ (r < 2147483648) × ((c : Cpu) → c .psw ≡ psw → r ≡ wrap c a) ⌝ }
 {
     if psw.right / 2147483648 % 2 == 1 {
@@ -185,11 +185,18 @@ pub fn guest_clock(epoch: u64, clock: u64) -> u64
     std::num::wrapping_add_u64(clock, epoch)
 }
 
+// A clock is past a comparator, both unsigned.
+fn past(comparator: u64, clock: u64) -> bool
+    ensures { λ r. ⌜ r ≡ ltb comparator clock ⌝ }
+{
+    comparator < clock
+}
+
 // The guest clock is past the comparator.
 pub fn comparator_due(guest: Guest, clock: u64) -> bool
     ensures { λ r. ⌜ r ≡ comparatorDue guest clock ⌝ }
 {
-    guest.comparator < guest_clock(guest.epoch, clock)
+    past(guest.comparator, guest_clock(guest.epoch, clock))
 }
 
 // The CPU timer is negative.

@@ -2,26 +2,23 @@
 -- Assumes nothing.
 use Prim.Native.Nat.{ℕ, _≤_}
 use native.Mathlib.Omega.{arith}
-use mathlib.Core.Path.{_≡_, refl, ap}
-use mathlib.Core.Bool.{Bool, true}
+use mathlib.Core.Path.{_≡_, refl}
+use mathlib.Core.Bool.{true}
 use mathlib.Core.List.{List}
 use lib.ListN.{length}
-use Rattle.machine.specs.declared.Cpu.{Cpu}
 use Rattle.machine.specs.declared.Guest.{Guest}
 use Rattle.machine.specs.declared.Verdict.the-variants.{Accepted}
 use Rattle.machine.specs.declared.Walk.{Walk}
 use Rattle.machine.specs.declared.Walk.the-variants.{Page, Failed}
 use Rattle.machine.specs.Refusals.{framesOf, wrongLength, wrongVersion, wrongStorage, wrongKeys, checkVerdict, translateVerdict}
 use Rattle.machine.specs.Entry.{entryGood}
-use Rattle.machine.specs.Psw.{wrap}
-use Rattle.machine.specs.Host.{Host, backing, view}
+use Rattle.machine.specs.Host.{Host, backing}
 use Rattle.machine.specs.Addresses.{Access, reached, denied}
 use Rattle.machine.specs.Operations.{addressIn, translatedTo}
 use Rattle.machine.proofs.Verdicts.{accepted-test, length-of-right, keys-of-right}
 use Rattle.storage.specs.Entered.{Entered}
 use Rattle.records.proofs.Entry.{entry-placed}
-use Rattle.address.specs.Touching.{seen, placed, touchedBy, touchOf}
-use Rattle.address.proofs.Seen.{access-seen}
+use Rattle.address.specs.Touching.{placed, touchedBy}
 use Rattle.drevokas.specs.Packing.{answered}
 
 pub checked-length : (r : List ℕ) → checkVerdict r ≡ Accepted → length r ≡ 200
@@ -52,9 +49,3 @@ answered-is g h (reached l) = by-walk (backing g h (l .absolute))
     by-walk : (w : Walk) → addressIn (l .absolute) w ≡ answered (placed (l .absolute) w)
     by-walk (Failed f) = refl
     by-walk (Page frame protected) = refl
-
--- addressing looks at the PSW and the control registers alone
-pub seen-enough : (g : Guest) (h : Host) (c : Cpu) (store : Bool) (a : ℕ)
-    → touchOf g h c store (wrap c a) ≡ touchOf g h (seen (c .psw) (c .control)) store (wrap (seen (c .psw) (c .control)) a)
-unfolding wrap
-seen-enough g h c store a = ap (touchedBy g h) (access-seen g (view g h) c store (wrap c a))

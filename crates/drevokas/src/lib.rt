@@ -12,6 +12,7 @@ use machine::Answer;
 use machine::Checked;
 use machine::End;
 use machine::Failure;
+use machine::Guest;
 use machine::Numbers;
 use machine::Reason;
 use machine::Translated;
@@ -85,6 +86,27 @@ fn answer(x: Place) -> Translated
     }
 }
 
+// The guest as far as addressing looks at it, with nothing else to be made or handed on.
+fn addressed(guest: Guest) -> Guest
+    ensures { λ r. ⌜ (r .origin ≡ guest .origin) × (r .extent ≡ guest .extent) × (r .prefix ≡ guest .prefix) ⌝ }
+{
+    Guest {
+        interventions: 0,
+        mode: 0,
+        interceptions: 0,
+        lctl: 0,
+        prefix: guest.prefix,
+        origin: guest.origin,
+        extent: guest.extent,
+        comparator: 0,
+        epoch: 0,
+        svc: 0,
+        svc1: 0,
+        svc2: 0,
+        svc3: 0,
+    }
+}
+
 // translate, once the input is accepted.
 fn translate_accepted(
     r: &[u8],
@@ -99,15 +121,14 @@ fn translate_accepted(
 {
     let guest = records::guest_of(r);
     if records::entry_good(guest) {
-        let cpu = records::cpu_of(r);
-        let psw = cpu.psw;
-        let control = cpu.control;
+        let psw = records::psw_of(r);
+        let control = records::table_controls(r);
         let at = address::wrapped(psw, a);
         return answer(address::touch(
             storage,
             keys,
             designation,
-            guest,
+            addressed(guest),
             psw,
             control,
             kind == STORE,

@@ -2,10 +2,11 @@
 // machine's Record, Refusals, Entry and Answers.
 ghost use mathlib.Core.Path.{_≡_};
 ghost use Prim.Native.Nat.{_+_, _≤_, _<_};
-ghost use lib.ListN.{length, set};
+ghost use lib.ListN.{length, getD, set};
 ghost use lib.Seq.{sets};
 ghost use Rattle.machine.specs.Words.{wordsAt, wordsBytes};
 ghost use Rattle.machine.specs.Record.{guestOf, cpuOf, withCpu, withResults};
+ghost use Rattle.machine.specs.Psw.{control};
 ghost use Rattle.machine.specs.Refusals.{checkVerdict, translateVerdict, runVerdict};
 ghost use Rattle.machine.specs.Entry.{entryGood};
 ghost use Rattle.machine.specs.Answers.{results, reasonResults, endResults};
@@ -102,6 +103,28 @@ fn registers_at(r: &[u8], a: usize) -> Registers
         words[i] = words::word_at(r, a + 4 * i);
         i += 1;
     }
+    Registers { words }
+}
+
+// The PSW.
+pub fn psw_of(r: &[u8]) -> Psw
+    requires { ⌜ length (now r) ≡ 200 ⌝ }
+    ensures { λ psw. ⌜ psw ≡ (cpuOf (now (r .entry))) .psw ⌝ }
+{
+    Psw {
+        left: words::word_at(r, PSW),
+        right: words::word_at(r, PSW + 4),
+    }
+}
+
+// The control registers, of which only 0 and 1 are read: addressing looks at no other.
+pub fn table_controls(r: &[u8]) -> Registers
+    requires { ⌜ length (now r) ≡ 200 ⌝ }
+    ensures { λ x. ⌜ (getD (x .words) 0 0 ≡ control (cpuOf (now (r .entry))) 0) × (getD (x .words) 1 0 ≡ control (cpuOf (now (r .entry))) 1) ⌝ }
+{
+    let mut words = [0; 16];
+    words[0] = words::word_at(r, CONTROL);
+    words[1] = words::word_at(r, CONTROL + 4);
     Registers { words }
 }
 

@@ -59,14 +59,14 @@ fn branch(cpu: Cpu, text: Text, taken: bool, a: u32) -> Done
 }
 
 // The mask in bits 8-11 of the first halfword selects the condition code.
-fn selects(psw: Psw, first: u32) -> bool
+pub fn selects(psw: Psw, first: u32) -> bool
     ensures { λ r. ⌜ ((c : Cpu) → c .psw ≡ psw → r ≡ selected (bits 16 8 11 first) (conditionCode c)) ⌝ }
 {
     cpu::selected(first / 16 % 16, cpu::condition_code(psw))
 }
 
 // The mask selects the condition code, and R2 is not zero.
-fn selects_register(psw: Psw, first: u32) -> bool
+pub fn selects_register(psw: Psw, first: u32) -> bool
     ensures { λ r. ⌜ ((c : Cpu) → c .psw ≡ psw → r ≡ (not (eqb (bits 16 12 15 first) 0) && selected (bits 16 8 11 first) (conditionCode c))) ⌝ }
 {
     if first % 16 == 0 {
@@ -99,7 +99,7 @@ pub fn branch_indexed(keys: &mut [u8], cpu: Cpu, text: Text, t: Frames) -> Done
 }
 
 // An overflow is a program exception.
-fn interrupts(psw: Psw, overflow: bool) -> bool
+pub fn interrupts(psw: Psw, overflow: bool) -> bool
     ensures { λ r. ⌜ ((c : Cpu) → c .psw ≡ psw → r ≡ (overflow && overflowEnabled c)) ⌝ }
 {
     if overflow {

@@ -25,7 +25,7 @@ use Rattle.execute.specs.declared.Done.{Done}
 use Rattle.execute.specs.declared.Event.{Event}
 use Rattle.execute.specs.After.{eventOf, cpuAfter, storageAfter, keysAfter, leftBy, Left}
 use Rattle.run.specs.declared.Ended.{Ended}
-use Rattle.run.specs.Running.{isCompleted, endOf, machineAt, Ends}
+use Rattle.run.specs.Running.{isCompleted, endOf, machineAt, Ends, Remains}
 
 suc-is-one-more : (u : ℕ) → suc u ≡ 1 + u
 suc-is-one-more u = omega arith
@@ -98,10 +98,6 @@ module _ (n : Numbers) (d : List ℕ) {g : Guest} (long : length d ≡ 200) (her
         bytes = sym bytes;
         marks = sym marks;
       }
-
--- what is left to run, from here, is what was left at the start
-abbrev pub Remains : Numbers → ℕ → Machine → ℕ → Machine → Type 0
-Remains n budget start units here = run budget n start ≡ more units (run (budget - units) n here)
 
 pub remains-start : (n : Numbers) (budget : ℕ) (start : Machine) → Remains n budget start 0 start
 remains-start n budget start =

@@ -1,7 +1,8 @@
 -- `cpu::comparator_due` meets its contract.
 -- Assumes nothing.
-use mathlib.Core.Path.{refl}
+use mathlib.Core.Path.{refl, ap, _∙_}
 use borrow.Author.Needs.{needs}
+use lib.Dec.{ltb}
 use Rattle.machine.specs.Time.{comparatorDue}
 use Rattle.cpu.proofs.comparator_due.Statement.{statement}
 use Rattle.cpu.proofs.comparator_due.Tie as tie
@@ -9,9 +10,14 @@ use Rattle.cpu.proofs.comparator_due.Tie as tie
 guest-clock-requires : tie.Need-guest-clock-requires
 guest-clock-requires c κs = search needs
 
+past-requires : tie.Need-past-requires
+past-requires c κs = search needs
+
 returns : tie.Need-returns
 unfolding comparatorDue
-returns c = rw (c .before .guest-clock .ensures (c .before .before .args .guest) refl) refl
+returns c =
+    let start = c .before .before in
+    c .past .ensures ∙ ap (ltb (start .args .guest .comparator)) (c .before .guest-clock .ensures (start .args .guest) refl)
 
 pub comparator-due-spec : {M : Type 1} → statement M
-comparator-due-spec = tie.close (tie.spec guest-clock-requires returns)
+comparator-due-spec = tie.close (tie.spec guest-clock-requires past-requires returns)

@@ -1,8 +1,8 @@
 -- `run::run` meets its contract.
 -- Assumes nothing.
-use Prim.Native.Nat.{ℕ, _-_, _^_, _≤_, _<_}
+use Prim.Native.Nat.{ℕ, _+_, _-_, _^_, _≤_, _<_}
 use native.Mathlib.Omega.{arith}
-use mathlib.Core.Path.{_≡_, refl, ap, sym, _∙_}
+use mathlib.Core.Path.{_≡_, refl, ap, sym, subst, _∙_}
 use mathlib.Core.List.{List}
 use lib.ListN.{length, getD}
 use mir.Syntax.{w32}
@@ -12,19 +12,20 @@ use Rattle.machine.specs.declared.Numbers.{Numbers}
 use Rattle.machine.specs.Record.{guestOf}
 use Rattle.machine.specs.Time.{clockAfter, charged}
 use Rattle.machine.proofs.Lens.{Bounded}
-use Rattle.run.specs.Running.{machineAt}
-use Rattle.run.proofs.Steps.{Remains, remains-start, budget-ends, one-more, exit-ends, exit-ended}
+use Rattle.run.specs.Running.{machineAt, Remains}
+use Rattle.run.proofs.Steps.{remains-start, budget-ends, one-more, exit-ends, exit-ended}
+use Rattle.run.proofs.Streaking.{streak-more}
 use Rattle.run.proofs.run.Statement.{statement}
 use Rattle.run.proofs.run.Tie as tie
 
 abbrev Inv-loop : tie.InvT-loop
-Inv-loop storage₀ keys₀ designation guest clock time budget cpu₀ now₀ units₀ storage keys cpu now units =
+Inv-loop storage₀ keys₀ designation guest clock time budget cpu₀ now₀ units₀ pace₀ storage keys cpu now units pace =
     (units ≤ budget) × (length storage ≡ length storage₀) × (length keys ≡ length keys₀) × Bounded cpu
     × ((n : Numbers) (d : List ℕ) → n .designation ≡ designation → n .time ≡ time → length d ≡ 200 → guestOf d ≡ guest
     → Remains n budget (machineAt d cpu₀ now₀ storage₀ keys₀) units (machineAt d cpu now storage keys))
 
 abbrev μ-loop : tie.MeasureT-loop
-μ-loop storage₀ keys₀ designation guest clock time budget cpu₀ now₀ units₀ storage keys cpu now units =
+μ-loop storage₀ keys₀ designation guest clock time budget cpu₀ now₀ units₀ pace₀ storage keys cpu now units pace =
     budget - units
 
 loop-holds : tie.Need-loop-holds Inv-loop μ-loop
@@ -42,12 +43,33 @@ loop-holds c = (
   λ n d designated timed long here. remains-start n _ _,
 )
 
+sub-paced-streak : tie.Need-sub-paced-streak Inv-loop μ-loop
+sub-paced-streak c = search needs
+
+paced-streak-requires : tie.Need-paced-streak-requires Inv-loop μ-loop
+paced-streak-requires c κs =
+    let pre = c .before .before .before .before .before .before .pre in
+    let inv = c .before .before .before .loop .inv in
+    (pre .0, omega (arith, pre .1, inv .1, inv .2), inv .3)
+
+after-streak-requires : tie.Need-after-streak-requires Inv-loop μ-loop
+after-streak-requires c κs = tt
+
+add-units : tie.Need-add-units Inv-loop μ-loop
+add-units c =
+    let start = c .before .before .before .before .before .before .before .before .before .before .before .before .before in
+    let small : start .args .budget < 2 ^ 32 = search needs in
+    let few = c .before .before .before .before .before .before .paced-streak .ensures .0 in
+    record { fits = omega (arith, small, few, c .before .before .before .before .before .before .before .before .before .loop-test .taken) }
+
+pace-after-requires : tie.Need-pace-after-requires Inv-loop μ-loop
+pace-after-requires c κs = tt
+
 unit-requires : tie.Need-unit-requires Inv-loop μ-loop
 unit-requires c κs =
-    let back6 = c .before .before .before .before .before .before in
-    let pre = back6 .pre in
-    let inv = c .before .before .before .loop .inv in
-    (pre .0, omega (arith, pre .1, inv .1, inv .2))
+    let pre = c .before .before .before .before .before .before .before .before .before .before .before .before .before .before .before .before .before .pre in
+    let inv = c .before .before .before .before .before .before .before .before .before .before .before .before .before .before .loop .inv in
+    (pre .0, omega (arith, pre .1, inv .1, inv .2, c .before .before .before .before .before .before .before .before .before .storage .given, c .before .before .before .before .before .before .before .keys .given))
 
 state-after-requires : tie.Need-state-after-requires Inv-loop μ-loop
 state-after-requires c κs = tt
@@ -61,60 +83,104 @@ charged-requires c κs = tt
 clock-after-requires : tie.Need-clock-after-requires Inv-loop μ-loop
 clock-after-requires c κs = tt
 
-add-units : tie.Need-add-units Inv-loop μ-loop
-add-units c =
-    let back12 = c .before .before .before .before .before .before .before .before .before .before .before .before in
-    let back16 = back12 .before .before .before .before in
-    let small : back16 .args .budget < 2 ^ 32 = search needs in
-    let below = back12 .loop-test .taken in
-    record { fits = omega (arith, small, below) }
+add-units-2 : tie.Need-add-units-2 Inv-loop μ-loop
+add-units-2 c =
+    let start = c .before .before .before .before .before .before .before .before .before .before .before .before .before .before .before .before .before .before .before .before .before .before .before .before .before .before .before in
+    let small : start .args .budget < 2 ^ 32 = search needs in
+    record { fits = omega (arith, small, c .before .before .before .before .before .before .before .before .before .before .before .before .if1 .taken) }
 
 loop-less : tie.Need-loop-less Inv-loop μ-loop
-loop-less c = search needs
+loop-less c = omega (arith, c .before .before .before .before .before .before .before .before .before .before .before .before .if1 .taken)
 
 loop-again : tie.Need-loop-again Inv-loop μ-loop
 loop-again c =
-    let back4 = c .before .before .before .before in
-    let back6 = back4 .before .before in
-    let back8 = back6 .before .before in
-    let back9 = back8 .before in
-    let back12 = back9 .before .before .before in
-    let back13 = back12 .before in
-    let back16 = back13 .before .before .before in
-    let a = back16 .args in
-    let inv = back13 .loop .inv in (
-      search needs,
-      omega (arith, back8 .storage .given, inv .1),
-      omega (arith, back6 .keys .given, inv .2),
-      c .before .charged .ensures .1,
+    let start = c .before .before .before .before .before .before .before .before .before .before .before .before .before .before .before .before .before .before .before .before .before .before .before .before .before .before .before in
+    let a = start .args in
+    let loop = c .before .before .before .before .before .before .before .before .before .before .before .before .before .before .before .before .before .before .before .before .before .before .before .before .loop in
+    let inv = loop .inv in
+    let streak = c .before .before .before .before .before .before .before .before .before .before .before .before .before .before .before .before .before .before .before .before .paced-streak in
+    let after = c .before .before .before .before .before .before .before .before .before .before .before .before .before .before .before .after-streak in
+    let bounded = subst Bounded (sym (after .ensures)) (streak .ensures .1 .bounded) in
+    let remains : (n : Numbers) (d : List ℕ) → n .designation ≡ a .designation → n .time ≡ a .time → length d ≡ 200 → guestOf d ≡ a .guest
+    → Remains n (a .budget) (machineAt d (a .start) (a .clock) (a .storage .now) (a .keys .now)) (loop .units + streak .result .units)
+    (machineAt d (after .result) (streak .result .clock) (streak .last .0) (streak .last .1 .0)) =
+    λ n d designated timed long here.
+    streak-more n (a .budget) _ (machineAt d (loop .cpu) (loop .now) (loop .storage) (loop .keys)) _ (loop .units) (streak .result .units) (inv .4 n d designated timed long here)
+    (subst (λ k. Remains n (a .budget - loop .units) (machineAt d (loop .cpu) (loop .now) (loop .storage) (loop .keys)) (streak .result .units) (machineAt d k (streak .result .clock) (streak .last .0) (streak .last .1 .0))) (sym (after .ensures))
+    (streak .ensures .1 .remains n d designated timed long here)) in
+    let unit = c .before .before .before .before .before .before .before .before .before .unit in
+    let charged′ = c .before .charged in (
+      omega (arith, c .before .before .before .before .before .before .before .before .before .before .before .before .if1 .taken),
+      omega (arith, inv .1, c .before .before .before .before .before .before .before .before .before .before .before .before .before .before .before .before .before .before .before .storage .given, c .before .before .before .before .before .before .before .before .storage2 .given),
+      omega (arith, inv .2, c .before .before .before .before .before .before .before .before .before .before .before .before .before .before .before .before .before .keys .given, c .before .before .before .before .before .before .keys2 .given),
+      charged′ .ensures .1,
       λ n d designated timed long here.
-          one-more n d long here (a .budget) _ (back13 .loop .units) (back13 .loop .cpu) (back13 .loop .now) (back13 .loop .storage) (back13 .loop .keys) (inv .3) designated
-          (back9 .unit .result) _ _ (back9 .unit .ensures) (back12 .loop-test .taken) (inv .4 n d designated timed long here) (sym (c .before .before .before .completed .ensures) ∙ c .before .before .if1 .taken)
-          (c .before .charged .result) (c .before .charged .ensures .1) (c .before .charged .ensures .0 ∙ (λ i. charged (back4 .state-after .ensures .0 i) (sym timed i)))
-          (c .clock-after .result) (c .clock-after .ensures ∙ ap (clockAfter (back13 .loop .now)) (sym timed)),
+          one-more n d long here (a .budget) _ (loop .units + streak .result .units) (after .result) (streak .result .clock) (streak .last .0) (streak .last .1 .0) bounded designated
+          (unit .result) _ _ (unit .ensures) (c .before .before .before .before .before .before .before .before .before .before .before .before .if1 .taken) (remains n d designated timed long here) (sym (c .before .before .before .completed .ensures) ∙ c .before .before .if2 .taken)
+          (charged′ .result) (charged′ .ensures .1) (charged′ .ensures .0 ∙ (λ i. charged (c .before .before .before .before .state-after .ensures .0 i) (sym timed i)))
+          (c .clock-after .result) (c .clock-after .ensures ∙ ap (clockAfter (streak .result .clock)) (sym timed)),
     )
 
 end-of-requires : tie.Need-end-of-requires Inv-loop μ-loop
 end-of-requires c κs = tt
 
 same-length : tie.Need-same-length Inv-loop μ-loop
-same-length c = search needs
+same-length c =
+    let inv = c .before .before .before .before .before .before .before .before .before .before .before .before .before .before .before .before .before .before .before .before .before .before .before .loop .inv in
+    omega (arith, inv .1, c .before .before .before .before .before .before .before .before .before .before .before .before .before .before .before .before .before .before .storage .given, c .before .before .before .before .before .before .before .storage2 .given)
 
 same-length-2 : tie.Need-same-length-2 Inv-loop μ-loop
-same-length-2 c = search needs
+same-length-2 c =
+    let inv = c .before .before .before .before .before .before .before .before .before .before .before .before .before .before .before .before .before .before .before .before .before .before .before .loop .inv in
+    omega (arith, inv .2, c .before .before .before .before .before .before .before .before .before .before .before .before .before .before .before .before .keys .given, c .before .before .before .before .before .keys2 .given)
 
 returns : tie.Need-returns Inv-loop μ-loop
 returns c =
-    let back8 = c .before .before .before .before .before .before .before .before in
-    let back11 = back8 .before .before .before in
-    let back12 = back11 .before in
-    let back15 = back12 .before .before .before in
-    let a = back15 .args in
-    let inv = back12 .loop .inv in
+    let start = c .before .before .before .before .before .before .before .before .before .before .before .before .before .before .before .before .before .before .before .before .before .before .before .before .before .before in
+    let a = start .args in
+    let loop = c .before .before .before .before .before .before .before .before .before .before .before .before .before .before .before .before .before .before .before .before .before .before .before .loop in
+    let inv = loop .inv in
+    let streak = c .before .before .before .before .before .before .before .before .before .before .before .before .before .before .before .before .before .before .before .paced-streak in
+    let after = c .before .before .before .before .before .before .before .before .before .before .before .before .before .before .after-streak in
+    let bounded = subst Bounded (sym (after .ensures)) (streak .ensures .1 .bounded) in
+    let remains : (n : Numbers) (d : List ℕ) → n .designation ≡ a .designation → n .time ≡ a .time → length d ≡ 200 → guestOf d ≡ a .guest
+    → Remains n (a .budget) (machineAt d (a .start) (a .clock) (a .storage .now) (a .keys .now)) (loop .units + streak .result .units)
+    (machineAt d (after .result) (streak .result .clock) (streak .last .0) (streak .last .1 .0)) =
     λ n d designated timed long here.
-    exit-ended d (exit-ends n d long here (a .budget) _ (back12 .loop .units) (back12 .loop .cpu) (back12 .loop .now) (back12 .loop .storage) (back12 .loop .keys) (inv .3) designated
-    (back8 .unit .result) _ _ (back8 .unit .ensures) (back11 .loop-test .taken) (inv .4 n d designated timed long here) (sym (c .before .before .completed .ensures) ∙ c .before .if1 .left)
+    streak-more n (a .budget) _ (machineAt d (loop .cpu) (loop .now) (loop .storage) (loop .keys)) _ (loop .units) (streak .result .units) (inv .4 n d designated timed long here)
+    (subst (λ k. Remains n (a .budget - loop .units) (machineAt d (loop .cpu) (loop .now) (loop .storage) (loop .keys)) (streak .result .units) (machineAt d k (streak .result .clock) (streak .last .0) (streak .last .1 .0))) (sym (after .ensures))
+    (streak .ensures .1 .remains n d designated timed long here)) in
+    let unit = c .before .before .before .before .before .before .before .before .unit in
+    λ n d designated timed long here.
+    exit-ended d (exit-ends n d long here (a .budget) _ (loop .units + streak .result .units) (after .result) (streak .result .clock) (streak .last .0) (streak .last .1 .0) bounded designated
+    (unit .result) _ _ (unit .ensures) (c .before .before .before .before .before .before .before .before .before .before .before .if1 .taken) (remains n d designated timed long here) (sym (c .before .before .completed .ensures) ∙ c .before .if2 .left)
     (c .before .before .before .state-after .result) (c .before .before .before .state-after .ensures .1) (c .before .before .before .state-after .ensures .0)) (c .end-of .ensures)
+
+loop-less-2 : tie.Need-loop-less-2 Inv-loop μ-loop
+loop-less-2 c = omega (arith, c .if1 .left, c .before .before .before .before .before .before .before .before .before .before .before .loop-test .taken)
+
+loop-again-2 : tie.Need-loop-again-2 Inv-loop μ-loop
+loop-again-2 c =
+    let start = c .before .before .before .before .before .before .before .before .before .before .before .before .before .before .before in
+    let a = start .args in
+    let loop = c .before .before .before .before .before .before .before .before .before .before .before .before .loop in
+    let inv = loop .inv in
+    let streak = c .before .before .before .before .before .before .before .before .paced-streak in
+    let after = c .before .before .before .after-streak in
+    let bounded = subst Bounded (sym (after .ensures)) (streak .ensures .1 .bounded) in
+    let remains : (n : Numbers) (d : List ℕ) → n .designation ≡ a .designation → n .time ≡ a .time → length d ≡ 200 → guestOf d ≡ a .guest
+    → Remains n (a .budget) (machineAt d (a .start) (a .clock) (a .storage .now) (a .keys .now)) (loop .units + streak .result .units)
+    (machineAt d (after .result) (streak .result .clock) (streak .last .0) (streak .last .1 .0)) =
+    λ n d designated timed long here.
+    streak-more n (a .budget) _ (machineAt d (loop .cpu) (loop .now) (loop .storage) (loop .keys)) _ (loop .units) (streak .result .units) (inv .4 n d designated timed long here)
+    (subst (λ k. Remains n (a .budget - loop .units) (machineAt d (loop .cpu) (loop .now) (loop .storage) (loop .keys)) (streak .result .units) (machineAt d k (streak .result .clock) (streak .last .0) (streak .last .1 .0))) (sym (after .ensures))
+    (streak .ensures .1 .remains n d designated timed long here)) in (
+      omega (arith, streak .ensures .0, c .before .before .before .before .before .before .before .before .before .before .before .loop-test .taken),
+      omega (arith, inv .1, c .before .before .before .before .before .before .before .storage .given),
+      omega (arith, inv .2, c .before .before .before .before .before .keys .given),
+      bounded,
+      remains,
+    )
 
 same-length-3 : tie.Need-same-length-3 Inv-loop μ-loop
 same-length-3 c = search needs
@@ -124,12 +190,11 @@ same-length-4 c = search needs
 
 returns-2 : tie.Need-returns-2 Inv-loop μ-loop
 returns-2 c =
-    let back4 = c .before .before .before .before in
-    let a = back4 .args in
-    let inv = c .before .loop .inv in
+    let a = c .before .before .before .before .args in
+    let loop = c .before .loop in
+    let inv = loop .inv in
     λ n d designated timed long here.
-    budget-ends n d long here (a .budget) _ (c .before .loop .units) (c .before .loop .cpu) (c .before .loop .now) (c .before .loop .storage) (c .before .loop .keys) (inv .0) (c .loop-test .left)
-    (inv .4 n d designated timed long here)
+    budget-ends n d long here (a .budget) _ (loop .units) (loop .cpu) (loop .now) (loop .storage) (loop .keys) (inv .0) (c .loop-test .left) (inv .4 n d designated timed long here)
 
 pub run-spec : {M : Type 1} → statement M
 run-spec =
@@ -138,18 +203,25 @@ run-spec =
     Inv-loop
     μ-loop
     loop-holds
+    sub-paced-streak
+    paced-streak-requires
+    after-streak-requires
+    add-units
+    pace-after-requires
     unit-requires
     state-after-requires
     completed-requires
     charged-requires
     clock-after-requires
-    add-units
+    add-units-2
     loop-less
     loop-again
     end-of-requires
     same-length
     same-length-2
     returns
+    loop-less-2
+    loop-again-2
     same-length-3
     same-length-4
     returns-2)

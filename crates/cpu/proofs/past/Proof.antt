@@ -1,0 +1,11 @@
+-- `cpu::past` meets its contract.
+-- Assumes nothing.
+use mathlib.Core.Path.{refl}
+use Rattle.cpu.proofs.past.Statement.{statement}
+use Rattle.cpu.proofs.past.Tie as tie
+
+returns : tie.Need-returns
+returns c = refl
+
+pub past-spec : {M : Type 1} → statement M
+past-spec = tie.close (tie.spec returns)

@@ -1,0 +1,104 @@
+-- `guard::name_tables` meets its contract.
+-- Assumes nothing.
+use mathlib.Core.Path.{_∙_}
+use borrow.Author.Needs.{needs}
+use borrow.Author.Tests.{eq-eqb, ne-eqb}
+use Rattle.machine.specs.Addresses.{formatGood}
+use Rattle.address.specs.Touching.{seen}
+use Rattle.address.proofs.Touches.{aligned-tableLeads, aligned-segmentLeads}
+use Rattle.guard.proofs.Guarded.{real-off, real-malformed, real-walked}
+use Rattle.guard.proofs.name_tables.Statement.{statement}
+use Rattle.guard.proofs.name_tables.Tie as tie
+
+returns : tie.Need-returns
+returns c =
+    let start = c .before .before .before .before in
+    (λ frame named. named, real-off _ (start .args .guest) (start .args .designation) (start .args .storage .now) (seen (start .args .psw) _) (start .args .a) (ne-eqb _ _ (c .if1 .taken)))
+
+element-copy-out-cr0 : tie.Need-element-copy-out-cr0
+element-copy-out-cr0 c = search needs
+
+returns-2 : tie.Need-returns-2
+unfolding formatGood
+returns-2 c =
+    let start = c .before .before .before .before .before .before in (
+      λ frame named. named,
+      real-malformed _ (start .args .guest) (start .args .designation) (start .args .storage .now) (seen (start .args .psw) _) (start .args .a)
+          (eq-eqb _ _ (c .before .before .if1 .left))
+          (ne-eqb _ _ (c .if2 .taken)),
+    )
+
+element-copy-out-cr1 : tie.Need-element-copy-out-cr1
+element-copy-out-cr1 c = search needs
+
+table-leads-requires : tie.Need-table-leads-requires
+table-leads-requires c κs = search needs
+
+name-page-entry-requires : tie.Need-name-page-entry-requires
+name-page-entry-requires c κs =
+    let start = c .before .before .before .before .before .before .before .before .before in
+    (start .pre .0, start .pre .1, rw (c .before .table-leads .ensures) (aligned-tableLeads _ _ _))
+
+read-through-requires : tie.Need-read-through-requires
+read-through-requires c κs = (c .before .before .before .before .before .before .before .before .before .before .before .before .pre .1, rw (c .before .before .before .before .table-leads .ensures) (aligned-tableLeads _ _ _))
+
+segment-leads-requires : tie.Need-segment-leads-requires
+segment-leads-requires c κs = search needs
+
+name-page-entry-requires-2 : tie.Need-name-page-entry-requires-2
+name-page-entry-requires-2 c κs =
+    let start = c .before .before .before .before .before .before .before .before .before .before .before .before .before .before .before in
+    (c .before .before .before .before .guard .given ∙ start .pre .0, start .pre .1, rw (c .before .segment-leads .ensures) (aligned-segmentLeads _ _ _))
+
+read-through-requires-2 : tie.Need-read-through-requires-2
+read-through-requires-2 c κs = (c .before .before .before .before .before .before .before .before .before .before .before .before .before .before .before .before .before .before .pre .1, rw (c .before .before .before .before .segment-leads .ensures) (aligned-segmentLeads _ _ _))
+
+page-of-requires : tie.Need-page-of-requires
+page-of-requires c κs = search needs
+
+same-length : tie.Need-same-length
+same-length c = search needs
+
+returns-3 : tie.Need-returns-3
+unfolding formatGood
+returns-3 c =
+    let back4 = c .before .before .before .before in
+    let back7 = back4 .before .before .before in
+    let back10 = back7 .before .before .before in
+    let back14 = back10 .before .before .before .before in
+    let start = back14 .before .before .before .before .before .before in
+    let first = back10 .name-page-entry .ensures in
+    let second = back4 .name-page-entry2 .ensures in (
+      λ frame named. second .0 frame (first .0 frame named),
+      real-walked _ (start .args .guest) (start .args .designation) (start .args .storage .now) (seen (start .args .psw) _) (start .args .a)
+          (eq-eqb _ _ (back14 .before .before .if1 .left))
+          (eq-eqb _ _ (back14 .if2 .left))
+          _ _ _ _ _
+          (back10 .before .before .table-leads .ensures)
+          (back7 .read-through .ensures)
+          (back4 .before .before .segment-leads .ensures)
+          (c .before .read-through2 .ensures)
+          (c .page-of .ensures)
+          _
+          (second .0)
+          (first .1)
+          (second .1),
+    )
+
+pub name-tables-spec : {M : Type 1} → statement M
+name-tables-spec =
+    tie.close
+    (tie.spec
+    returns
+    element-copy-out-cr0
+    returns-2
+    element-copy-out-cr1
+    table-leads-requires
+    name-page-entry-requires
+    read-through-requires
+    segment-leads-requires
+    name-page-entry-requires-2
+    read-through-requires-2
+    page-of-requires
+    same-length
+    returns-3)
