@@ -1,0 +1,87 @@
+#!/bin/sh
+# Shows what the example guests do, and compares it with NAME.expected. Prints each difference, and fails if there is one.
+# "check.sh update" writes the expected files instead. DREVOKAS names another command. A command that does not end by itself is
+# ended, and has failed.
+set -eu
+DREVOKAS=${DREVOKAS:-$(dirname "$0")/../target/bin/drevokas}
+if [ ! -x "$DREVOKAS" ]; then
+    echo "examples/check.sh: no $DREVOKAS; build it first, with make" >&2
+    exit 1
+fi
+DREVOKAS=$(cd "$(dirname "$DREVOKAS")" && pwd)/$(basename "$DREVOKAS")
+export DREVOKAS
+cd "$(dirname "$0")"
+EXAMPLES=$(pwd)
+OUT=$(mktemp -d)
+trap 'rm -rf "$OUT"' EXIT
+trap 'exit 1' HUP INT TERM
+cp ./*.txt "$OUT"
+
+# A command as it is typed, and what it prints.
+show() {
+    echo "\$ drevokas $*"
+    timeout 20 "$DREVOKAS" "$@" 2>&1
+}
+
+# The lines of explain that match.
+show_explained() {
+    echo "\$ drevokas explain $1 | grep -E '$2'"
+    timeout 20 "$DREVOKAS" explain "$1" | grep -E "$2"
+}
+
+# Bytes of a frame in a case file of eight frames: file, frame, offset in decimal, count.
+show_bytes() {
+    printf '%s, frame %s, offset %s:' "$1" "$2" "$3"
+    od -A n -t x1 -j $((232 + 4096 * $2 + $3)) -N "$4" "$1"
+}
+
+batch() {
+    show make batch.txt -o batch.case
+    show run batch.case --after after.case
+    show trace batch.case
+    show_explained after.case '^  (CPU timer|code|interruption|gr0-3) '
+}
+
+page_exception() {
+    show make page_exception.txt -o page.case
+    show run page.case --after after.case
+    show trace page.case
+    show translate page.case 6000
+    show translate after.case 6000
+    show_explained after.case '^  (code|gr0-3) '
+}
+
+protected_page() {
+    show make protected_page.txt -o protected.case
+    show run protected.case --after fault.case
+    show_bytes fault.case 4 4092 4
+    show_bytes fault.case 5 0 4
+    show make protected_page_lift.txt --from fault.case -o lifted.case
+    show run lifted.case --after after.case
+    show_bytes after.case 4 4092 4
+    show_bytes after.case 5 0 4
+    show_explained after.case '^  (code|gr0-3) '
+}
+
+run() {
+    timeout 60 sh "$EXAMPLES/run.sh"
+}
+
+differ=0
+for name in batch page_exception protected_page run; do
+    set +e
+    (set -e && cd "$OUT" && "$name") > "$OUT/$name.got"
+    status=$?
+    set -e
+    if [ "$status" -ne 0 ]; then
+        echo "$name: a command ended with status $status (124: it did not end by itself):" >&2
+        tail -n 5 "$OUT/$name.got" >&2
+        differ=$((differ + 1))
+    elif [ "${1:-}" = update ]; then
+        cp "$OUT/$name.got" "$name.expected"
+    elif ! diff -u "$name.expected" "$OUT/$name.got"; then
+        differ=$((differ + 1))
+    fi
+done
+echo "4 examples, $differ differ"
+[ "$differ" -eq 0 ]

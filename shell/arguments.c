@@ -1,0 +1,173 @@
+#include "arguments.h"
+
+#include <errno.h>
+#include <stdio.h>
+#include <string.h>
+
+#include "command.h"
+
+#define MOST_UNITS 4294967295u
+
+static int bad_usage(const struct usage *u)
+{
+    fprintf(stderr, "usage: drevokas %s\n", u->synopsis);
+    return STATUS_BAD;
+}
+
+static int print_help(const struct usage *u)
+{
+    printf("usage: drevokas %s\n\n%s", u->synopsis, u->help);
+    return finished(STATUS_GOOD);
+}
+
+/* The number of the option that this argument names, "--name" or "--name=VALUE"; MOST_OPTIONS if it is none. */
+static unsigned named(const struct usage *u, const char *argument)
+{
+    size_t length = strcspn(argument, "=");
+    unsigned i;
+
+    for (i = 0; i < MOST_OPTIONS && u->options[i] != NULL; i++)
+        if (strlen(u->options[i]) == length && memcmp(u->options[i], argument, length) == 0)
+            return i;
+    return MOST_OPTIONS;
+}
+
+/* Takes the option at argv[i]. Returns the number of arguments that it uses, or 0 after a complaint. */
+static int take_option(int argc, char **argv, int i, const struct usage *u, struct arguments *a)
+{
+    unsigned o = named(u, argv[i]);
+    const char *equals = strchr(argv[i], '=');
+
+    if (o == MOST_OPTIONS)
+        complain("%s: unknown option %s", argv[0], argv[i]);
+    else if (a->values[o] != NULL)
+        complain("%s: option %s is given twice", argv[0], u->options[o]);
+    else if (equals == NULL && i + 1 == argc)
+        complain("%s: option %s needs a value", argv[0], u->options[o]);
+    else {
+        a->values[o] = equals != NULL ? equals + 1 : argv[i + 1];
+        return equals != NULL ? 1 : 2;
+    }
+    return 0;
+}
+
+static int is_option(const char *argument)
+{
+    return argument[0] == '-' && argument[1] != '\0';
+}
+
+static int wants_help(int argc, char **argv)
+{
+    int i;
+
+    for (i = 1; i < argc && strcmp(argv[i], "--") != 0; i++)
+        if (strcmp(argv[i], "--help") == 0)
+            return 1;
+    return 0;
+}
+
+int sort_arguments(int argc, char **argv, const struct usage *u, struct arguments *a)
+{
+    unsigned count = 0;
+    int i = 1, options = 1, used;
+
+    memset(a, 0, sizeof *a);
+    if (wants_help(argc, argv))
+        return print_help(u);
+    while (i < argc) {
+        used = 1;
+        if (options && strcmp(argv[i], "--") == 0)
+            options = 0;
+        else if (options && is_option(argv[i]))
+            used = take_option(argc, argv, i, u, a);
+        else if (count++ < u->operands)
+            a->operands[count - 1] = argv[i];
+        if (used == 0)
+            return bad_usage(u);
+        i += used;
+    }
+    if (count == u->operands)
+        return GO_ON;
+    complain("%s: too %s arguments: %u, and must be %u", argv[0], count < u->operands ? "few" : "many", count, u->operands);
+    return bad_usage(u);
+}
+
+/* ---- numbers ---- */
+
+static int digit_of(char c, int base)
+{
+    static const char digits[] = "0123456789abcdefABCDEF";
+    const char *at = strchr(digits, c);
+    int digit = at == NULL || c == '\0' ? -1 : (int)(at - digits);
+
+    if (digit >= 16)
+        digit -= 6;
+    return digit < base ? digit : -1;
+}
+
+static int number(const char *text, int base, uint64_t most, uint64_t *value)
+{
+    uint64_t v = 0;
+
+    if (*text == '\0')
+        return -1;
+    for (; *text != '\0'; text++) {
+        int digit = digit_of(*text, base);
+
+        if (digit < 0 || v > (most - (uint64_t)digit) / (uint64_t)base)
+            return -1;
+        v = v * (uint64_t)base + (uint64_t)digit;
+    }
+    *value = v;
+    return 0;
+}
+
+int decimal_number(const char *text, uint64_t most, uint64_t *value)
+{
+    return number(text, 10, most, value);
+}
+
+int hex_number(const char *text, uint64_t most, uint64_t *value)
+{
+    if (text[0] == '0' && (text[1] == 'x' || text[1] == 'X'))
+        text += 2;
+    return number(text, 16, most, value);
+}
+
+int budget_option(const char *value, uint32_t *units)
+{
+    uint64_t n = 0;
+
+    if (value == NULL)
+        return GO_ON;
+    if (decimal_number(value, MOST_UNITS, &n) != 0) {
+        complain("--budget %s: must be a decimal number from 0 to %u", value, MOST_UNITS);
+        return STATUS_BAD;
+    }
+    *units = (uint32_t)n;
+    return GO_ON;
+}
+
+/* ---- files ---- */
+
+int load(const char *name, struct case_file *c)
+{
+    char message[8192];
+    enum read_result result = read_case_file(name, c, message, sizeof message);
+
+    if (result == READ_GOOD)
+        return GO_ON;
+    complain("%s", message);
+    return result == READ_MALFORMED ? STATUS_REFUSED : STATUS_BAD;
+}
+
+int save(const char *name, const struct case_file *c, int status)
+{
+    uint8_t bytes[MOST_FILE_BYTES];
+    size_t length = case_file_bytes(c, bytes);
+
+    if (write_whole_file(name, bytes, length) == 0)
+        return status;
+    complain("%s: cannot be written: %s", strcmp(name, "-") == 0 ? "standard output" : name, strerror(errno));
+    return STATUS_BAD;
+}

@@ -1,0 +1,46 @@
+/* The arguments of a sub-command: operands, options with a value, and numbers. */
+#ifndef ARGUMENTS_H
+#define ARGUMENTS_H
+
+#include <stdint.h>
+
+#include "case_file.h"
+
+#define GO_ON (-1)      /* the arguments are good; any other result is the exit status */
+
+#define MOST_OPERANDS 2
+#define MOST_OPTIONS 2
+
+/* What a sub-command takes. */
+struct usage {
+    const char *synopsis;               /* one line, without the program's name */
+    const char *help;                   /* the rest of what --help prints */
+    unsigned operands;                  /* so many, no fewer and no more */
+    const char *options[MOST_OPTIONS];  /* names with their dashes, or NULL; each has a value: "--name VALUE", "--name=VALUE" */
+};
+
+/* What it is given. */
+struct arguments {
+    const char *operands[MOST_OPERANDS];
+    const char *values[MOST_OPTIONS];   /* of the options, in the order of struct usage; NULL for one that is not given */
+};
+
+/* Sorts the arguments, in any order; "--" ends the options. Prints the help, or complains. */
+int sort_arguments(int argc, char **argv, const struct usage *u, struct arguments *a);
+
+/* A decimal number from 0 to most: digits and nothing else. Returns 0, or -1. */
+int decimal_number(const char *text, uint64_t most, uint64_t *value);
+
+/* A hexadecimal number from 0 to most, with or without 0x. Returns 0, or -1. */
+int hex_number(const char *text, uint64_t most, uint64_t *value);
+
+/* The units that --budget asks for, left as they are when its value is NULL. Complains of a value that is no such number. */
+int budget_option(const char *value, uint32_t *units);
+
+/* Reads a case file. Complains if it cannot: STATUS_REFUSED if it is malformed, STATUS_BAD if it cannot be read. */
+int load(const char *name, struct case_file *c);
+
+/* Writes a case file. Complains and returns STATUS_BAD if it cannot, else returns status. */
+int save(const char *name, const struct case_file *c, int status);
+
+#endif

@@ -1,0 +1,73 @@
+#include "fetch.h"
+
+#include <stdio.h>
+#include <string.h>
+
+#include "../include/drevokas.h"
+#include "fields.h"
+#include "psw.h"
+#include "words.h"
+
+/* The byte that is i bytes into the instruction. Returns 0 if it was fetched. */
+static int fetch_byte(const struct case_file *c, struct text *t, unsigned i)
+{
+    t->answer = drevokas_translate(c->record, RECORD_BYTES, c->storage, (size_t)c->frames * FRAME_BYTES, c->keys, c->frames,
+                                   c->designation, psw_address(t->psw) + i, DREVOKAS_INSTRUCTION_FETCH, &t->where);
+    if (drevokas_kind(t->answer) != DREVOKAS_GOOD)
+        return -1;
+    t->bytes[i] = c->storage[t->where];
+    t->fetched = i + 1;
+    return 0;
+}
+
+struct text fetch_text(const struct case_file *c)
+{
+    struct text t;
+
+    memset(&t, 0, sizeof t);
+    t.psw = get_field(c->record, find_field("psw"));
+    if (psw_address(t.psw) % 2 != 0 || fetch_byte(c, &t, 0) != 0)
+        return t;
+    t.length = instruction_length(t.bytes[0]);
+    while (t.fetched < t.length && fetch_byte(c, &t, t.fetched) == 0)
+        ;
+    return t;
+}
+
+int is_whole(const struct text *t)
+{
+    return t->length != 0 && t->fetched == t->length;
+}
+
+/* Why the byte after those that were fetched is not there. */
+static void missing_words(const struct text *t, char *line, size_t room)
+{
+    unsigned number = (unsigned)drevokas_number(t->answer);
+
+    switch (drevokas_kind(t->answer)) {
+    case DREVOKAS_PROGRAM_EXCEPTION:
+        snprintf(line, room, "(not fetched: exception %02x hex, %s, at %08lx hex)", number, program_words(number),
+                 (unsigned long)psw_wrapped(t->psw, psw_address(t->psw) + t->fetched));
+        break;
+    case DREVOKAS_HOST_FAULT:
+        snprintf(line, room, "(not fetched: host fault %02x hex, %s, at host address %08lx hex)", number, program_words(number),
+                 (unsigned long)t->where);
+        break;
+    case DREVOKAS_INTERCEPTED:
+        snprintf(line, room, "(not fetched: entry fails)");
+        break;
+    default:
+        snprintf(line, room, "(not fetched: refused)");
+        break;
+    }
+}
+
+void text_words(const struct text *t, char *line, size_t room)
+{
+    if (is_whole(t))
+        disassemble(t->bytes, t->length, line, room);
+    else if (psw_address(t->psw) % 2 != 0)
+        snprintf(line, room, "(not fetched: exception 06 hex, specification, since the address is odd)");
+    else
+        missing_words(t, line, room);
+}

@@ -1,0 +1,24 @@
+/* The instruction at the PSW, fetched as the machine would: halfword by halfword, each byte by the library's translation. */
+#ifndef FETCH_H
+#define FETCH_H
+
+#include "case_file.h"
+#include "instructions.h"
+
+struct text {
+    uint64_t psw;               /* that it was fetched by */
+    uint8_t bytes[MOST_TEXT];
+    unsigned fetched;           /* bytes that were fetched */
+    unsigned length;            /* bytes of the instruction; 0 if the first halfword was not fetched */
+    uint64_t answer, where;     /* the library's answer for the last byte that was asked for */
+};
+
+struct text fetch_text(const struct case_file *c);
+
+/* Whether all of the instruction is there. */
+int is_whole(const struct text *t);
+
+/* The instruction in assembler, or in parentheses why it is not there. */
+void text_words(const struct text *t, char *line, size_t room);
+
+#endif

@@ -1,0 +1,20 @@
+/* The listed instructions by name: one table of names and formats, for the assembler and for the disassembler. */
+#ifndef INSTRUCTIONS_H
+#define INSTRUCTIONS_H
+
+#include <stddef.h>
+#include <stdint.h>
+
+#define MOST_TEXT 6
+
+/* The length in bytes of an instruction, by its first byte: 2, 4 or 6. */
+unsigned instruction_length(uint8_t first);
+
+/* Writes the instruction at text (of length bytes, at least instruction_length's for its first byte; otherwise it is shown as
+   data) in assembler: "AR    1,2", "BC    15,X'200'(1,2)"; an opcode that is not listed is shown as "DC    X'...'". */
+void disassemble(const uint8_t *text, size_t length, char *line, size_t room);
+
+/* Assembles one instruction ("L 1,X'10'(2,3)"). Returns its length in bytes, or 0, and then message says what is wrong. */
+unsigned assemble(const char *line, uint8_t text[MOST_TEXT], char *message, size_t room);
+
+#endif

@@ -1,0 +1,70 @@
+/* drevokas: case files run, checked, translated, explained, made and traced. */
+#include <fcntl.h>
+#include <signal.h>
+#include <stdio.h>
+#include <string.h>
+
+#include "command.h"
+
+static const struct {
+    const char *name, *purpose;
+    int (*run)(int argc, char **argv);
+} commands[] = {
+    {"run", "run a case file and print how it ended", command_run},
+    {"check", "say whether entry would succeed", command_check},
+    {"translate", "translate one guest address", command_translate},
+    {"explain", "show a case file to a person", command_explain},
+    {"make", "build a case file from its text form", command_make},
+    {"trace", "run unit by unit, one line for each", command_trace},
+};
+
+#define COMMANDS (sizeof commands / sizeof *commands)
+
+static void print_usage(FILE *to)
+{
+    size_t i;
+
+    fputs("usage: drevokas SUBCOMMAND ARGUMENTS\n\n", to);
+    for (i = 0; i < COMMANDS; i++)
+        fprintf(to, "  %-10s %s\n", commands[i].name, commands[i].purpose);
+    fputs("\ndrevokas SUBCOMMAND --help says what each takes.\n", to);
+}
+
+static int dispatch(int argc, char **argv)
+{
+    size_t i;
+
+    for (i = 0; i < COMMANDS; i++)
+        if (strcmp(argv[1], commands[i].name) == 0)
+            return commands[i].run(argc - 1, argv + 1);
+    complain("no sub-command %s", argv[1]);
+    print_usage(stderr);
+    return STATUS_BAD;
+}
+
+/* A standard stream that is closed is opened so that using it fails: no other file may come to stand in its place. */
+static void hold_streams(void)
+{
+    static const int wrong_way[] = {O_WRONLY, O_RDONLY, O_RDONLY};
+    int i;
+
+    for (i = 0; i < 3; i++)
+        if (fcntl(i, F_GETFD) < 0)
+            open("/dev/null", wrong_way[i]);
+}
+
+int main(int argc, char **argv)
+{
+    hold_streams();
+    signal(SIGXFSZ, SIG_IGN);   /* a file that grows too large is a write that fails */
+    if (argc < 2) {
+        complain("no sub-command");
+        print_usage(stderr);
+        return STATUS_BAD;
+    }
+    if (strcmp(argv[1], "--help") == 0) {
+        print_usage(stdout);
+        return finished(STATUS_GOOD);
+    }
+    return dispatch(argc, argv);
+}

@@ -1,0 +1,329 @@
+/* drevokas make: a case file from its text form. */
+#include <errno.h>
+#include <stdio.h>
+#include <stdlib.h>
+#include <string.h>
+#include <sys/stat.h>
+#include <unistd.h>
+
+#include "arguments.h"
+#include "command.h"
+#include "text_form.h"
+
+static const char help[] =
+    "Builds a case file from the text form in TEXT, or in standard input if TEXT is -. The case file goes to\n"
+    "OUT, or to standard output if that is no terminal. Nothing is written if the text has an error; each\n"
+    "error is reported as FILE:LINE: message.\n"
+    "\n"
+    "  -o OUT             where the case file goes\n"
+    "  --from CASE        starts from this case file: what the text does not say stays as it is there, and\n"
+    "                     \"at guest\" and \"at real\" go by the host's tables in it\n"
+    "\n"
+    "A line is a setting, a directive, or an instruction or data, perhaps with a label before it. # starts a\n"
+    "comment, and so does * where a line starts. Capital and small letters are the same. Numbers are decimal\n"
+    "unless marked: X'1F' and 0x1F are hex, B'101' is binary. 20us, 1.5ms and 2s are clock units (1/4096 us).\n"
+    "A value may be negative, and may be a sum with labels: start, end-start, table+8. Bit 0 is leftmost.\n"
+    "\n"
+    "Settings, in any order; what holds without them is in parentheses\n"
+    "  designation = N    host segment-table designation (that of \"host tables\", else 0)\n"
+    "  clock = N          host clock (0)\n"
+    "  time = N           time per unit (1us)\n"
+    "  budget = N         units, 0 to 65535 (65535)\n"
+    "  frames = N         frames of host storage, 1 to 8 (8)\n"
+    "  FIELD = N          a field of the record: length (200) version (1) interventions mode (8) interceptions\n"
+    "                     lctl prefix origin extent (1) psw timer comparator epoch svc svc1 svc2 svc3 code ilc\n"
+    "                     interruption address text reserved, cr0 to cr15, gr0 to gr15 (0 for the others)\n"
+    "  FIELD.bitN = N     one bit of a field: cr0.bit21 = 1\n"
+    "  psw.PART = N       a part of the PSW: per dat io external key check wait problem space cc mask address,\n"
+    "                     and amode, 24 or 31 (bit 12 is one, amode is 31, all else zero)\n"
+    "  key F[-F] = N      storage keys of frames (0)\n"
+    "\n"
+    "Page maps, in any order; A is the first address of a page, B the last of that page or a later one\n"
+    "  host tables at frame F      makes the host's tables from frame F on, and the designation\n"
+    "  map guest A[-B] to frame F[-F] [protected|invalid]\n"
+    "                              guest absolute pages, for the host's tables\n"
+    "  map guest A[-B] invalid     pages without a frame\n"
+    "  guest tables at real A      makes the guest's tables from there on, CR1, and CR0 bits 8-12 if they are 0\n"
+    "  map virtual A[-B] to real R [protected|invalid]\n"
+    "                              guest virtual pages, for the guest's tables\n"
+    "  map virtual A[-B] invalid   pages without a real address\n"
+    "\n"
+    "Contents, in their order\n"
+    "  at guest A                  what follows goes to this guest absolute address,\n"
+    "  at real A                   or guest real address, by the prefix,\n"
+    "  at virtual A                or guest virtual address, by the guest's tables,\n"
+    "  at frame F [OFFSET]         or into a frame itself, where labels cannot be\n"
+    "  [LABEL] INSTRUCTION OPERANDS\n"
+    "                              LR AR SR BCR SVC LA BC ST L LPSW STCTL LCTL STCK SPT STPT DIAG SIGP, and the\n"
+    "                              extended branches B BR NOP NOPR BE BNE BH BL BO BP BM BZ BER ...\n"
+    "  [LABEL] bytes X'0102 0304'  bytes in hex; also written DC\n"
+    "  [LABEL] half N,...          numbers of 2 bytes; word: 4 bytes; double: 8 bytes\n"
+    "  [LABEL] psw PART=N, ...     a PSW of 8 bytes: psw dat=1, address=start\n"
+    "  [LABEL] space N             N bytes of zeros\n"
+    "  align N                     goes on at the next multiple of N\n"
+    "  using LABEL,R               from here on, labels up to 4095 bytes after LABEL have base register R\n"
+    "  drop R                      no longer so\n"
+    "A storage operand is D, D(X,B), D(X) or D(,B), and D or D(B) where there is no index. D is a displacement,\n"
+    "or a label that is below 4096 or that a \"using\" reaches.\n"
+    "\n"
+    "Exit status: 0, 1 if CASE is not a case file, 2 for bad usage, an error in the text, or a file that cannot\n"
+    "be read or written.\n";
+
+static const struct usage usage = {"make TEXT [--from CASE] [-o OUT]", help, 1, {"-o", "--from"}};
+
+/* ---- errors ---- */
+
+void note_fault(struct text_form *f, unsigned line, const struct message *m)
+{
+    unsigned i;
+
+    for (i = 0; i < f->fault_count && i < MOST_ERRORS; i++)
+        if (f->faults[i].line == line)
+            return;
+    if (f->fault_count < MOST_ERRORS) {
+        f->faults[f->fault_count].line = line;
+        f->faults[f->fault_count].m = *m;
+    }
+    f->fault_count++;
+}
+
+int enough_faults(const struct text_form *f)
+{
+    return f->fault_count > MOST_ERRORS;
+}
+
+static int by_line(const void *a, const void *b)
+{
+    unsigned first = ((const struct fault *)a)->line, second = ((const struct fault *)b)->line;
+
+    return (first > second) - (first < second);
+}
+
+static int report(struct text_form *f, const char *name)
+{
+    unsigned kept = enough_faults(f) ? MOST_ERRORS : f->fault_count, i;
+
+    qsort(f->faults, kept, sizeof *f->faults, by_line);
+    for (i = 0; i < kept; i++)
+        fprintf(stderr, "%s:%u: %s\n", name, f->faults[i].line, f->faults[i].m.text);
+    if (enough_faults(f))
+        complain("more than %u errors; no case file is written", MOST_ERRORS);
+    else
+        complain("%u error%s; no case file is written", kept, kept == 1 ? "" : "s");
+    return STATUS_BAD;
+}
+
+/* ---- the text and its lines ---- */
+
+/* Reads all of a text, which ends with a zero byte; NULL after a complaint. */
+static char *read_text(FILE *in, const char *name, size_t *length)
+{
+    char *text = malloc(MOST_TEXT_BYTES + 1);
+
+    if (text == NULL) {
+        complain("%s: no memory is left", name);
+        return NULL;
+    }
+    errno = 0;
+    *length = fread(text, 1, MOST_TEXT_BYTES + 1, in);
+    if (!ferror(in) && *length <= MOST_TEXT_BYTES) {
+        text[*length] = '\0';
+        return text;
+    }
+    if (ferror(in))
+        complain("%s: cannot be read: %s", name, strerror(errno));
+    else
+        complain("%s: the text is over %u bytes, the most that is taken", name, MOST_TEXT_BYTES);
+    free(text);
+    return NULL;
+}
+
+static char *load_text(const char *operand, const char *name, size_t *length)
+{
+    int from_input = strcmp(operand, "-") == 0;
+    FILE *in = from_input ? stdin : fopen(operand, "r");
+    char *text;
+
+    if (in == NULL) {
+        complain("%s: cannot be read: %s", name, strerror(errno));
+        return NULL;
+    }
+    text = read_text(in, name, length);
+    if (!from_input)
+        fclose(in);
+    return text;
+}
+
+/* A line without its comment and the blanks at its end. Returns -1 with a message if it is no text. */
+static int clean_line(char *line, size_t length, struct message *m)
+{
+    char *comment = memchr(line, '#', length);
+    size_t i;
+
+    if (comment != NULL)
+        length = (size_t)(comment - line);
+    if (*skip_blanks(line) == '*')
+        length = 0;
+    while (length > 0 && (line[length - 1] == ' ' || line[length - 1] == '\t' || line[length - 1] == '\r'))
+        length--;
+    for (i = 0; i < length; i++)
+        if ((line[i] < ' ' && line[i] != '\t') || line[i] > '~') {
+            wrong(m, "there is a character X'%02X'; only plain text is taken", (unsigned char)line[i]);
+            *line = '\0';
+            return -1;
+        }
+    line[length] = '\0';
+    if (length <= MOST_LINE_LENGTH)
+        return 0;
+    *line = '\0';
+    return wrong(m, "the line has %lu characters without its comment, and may have %u; divide it", (unsigned long)length,
+                 MOST_LINE_LENGTH);
+}
+
+static unsigned count_lines(const char *text, size_t length)
+{
+    unsigned n = length > 0 && text[length - 1] != '\n';
+    size_t i;
+
+    for (i = 0; i < length; i++)
+        n += text[i] == '\n';
+    return n;
+}
+
+/* Cuts the text into lines. */
+static void cut_lines(struct text_form *f, char *text, size_t length)
+{
+    char *end = text + length;
+    struct message m;
+    unsigned line;
+
+    for (line = 1; line <= f->count; line++) {
+        char *stop = memchr(text, '\n', (size_t)(end - text));
+
+        if (stop == NULL)
+            stop = end;
+        if (clean_line(text, (size_t)(stop - text), &m))
+            note_fault(f, line, &m);
+        f->lines[line - 1].text = skip_blanks(text);
+        text = stop + 1;
+    }
+}
+
+/* ---- the command ---- */
+
+/* The line after the last one is there too, so that no array is empty. */
+static struct text_form *new_form(unsigned lines)
+{
+    struct text_form *f = calloc(1, sizeof *f);
+
+    if (f == NULL)
+        return NULL;
+    f->count = lines;
+    f->lines = calloc(lines + 1, sizeof *f->lines);
+    f->guest_pages = calloc(PAGES, sizeof *f->guest_pages);
+    f->virtual_pages = calloc(PAGES, sizeof *f->virtual_pages);
+    return f;
+}
+
+static void release(struct text_form *f)
+{
+    if (f == NULL)
+        return;
+    free(f->lines);
+    free(f->guest_pages);
+    free(f->virtual_pages);
+    free(f);
+}
+
+/* A text: its bytes, and what it is called in messages. */
+struct text {
+    char *bytes;
+    size_t length;
+    const char *name;
+};
+
+static int make(struct text_form *f, const struct text *t, const char *out)
+{
+    cut_lines(f, t->bytes, t->length);
+    sort_lines(f);
+    apply_settings(f);
+    apply_maps(f);
+    put_tables(f);
+    apply_contents(f);
+    if (f->fault_count > 0)
+        return report(f, t->name);
+    return save(out, &f->c, STATUS_GOOD);
+}
+
+static int make_from(const struct text *t, const char *from, const char *out)
+{
+    unsigned lines = count_lines(t->bytes, t->length);
+    struct text_form *f;
+    int status = GO_ON;
+
+    if (lines > MOST_LINES) {
+        complain("%s: the text has %u lines, and may have %u", t->name, lines, MOST_LINES);
+        return STATUS_BAD;
+    }
+    f = new_form(lines);
+    if (f == NULL || f->lines == NULL || f->guest_pages == NULL || f->virtual_pages == NULL) {
+        complain("%s: no memory is left", t->name);
+        status = STATUS_BAD;
+    } else if (from != NULL) {
+        f->from_file = 1;
+        status = load(from, &f->c);
+    }
+    if (status == GO_ON)
+        status = make(f, t, out);
+    release(f);
+    return status;
+}
+
+/* Whether both names are of one ordinary file. */
+static int same_file(const char *a, const char *b)
+{
+    struct stat first, second;
+
+    if (strcmp(a, "-") == 0 || strcmp(b, "-") == 0 || stat(a, &first) != 0 || stat(b, &second) != 0)
+        return 0;
+    return S_ISREG(first.st_mode) && first.st_dev == second.st_dev && first.st_ino == second.st_ino;
+}
+
+/* Whether the arguments can be done together; complains if not. */
+static int good_arguments(const struct arguments *a, const char *out)
+{
+    if (strcmp(out, "-") == 0 && isatty(STDOUT_FILENO)) {
+        complain("make: standard output is a terminal, and a case file is not for reading; write -o OUT");
+        return 0;
+    }
+    if (a->values[1] != NULL && strcmp(a->values[1], "-") == 0 && strcmp(a->operands[0], "-") == 0) {
+        complain("make: standard input cannot be both the text and the case file; name a file for one of them");
+        return 0;
+    }
+    if (same_file(a->operands[0], out)) {
+        complain("make: %s is the text, and would be lost; write another name after -o", out);
+        return 0;
+    }
+    return 1;
+}
+
+int command_make(int argc, char **argv)
+{
+    struct arguments a;
+    struct text t;
+    const char *out;
+    int status = sort_arguments(argc, argv, &usage, &a);
+
+    if (status != GO_ON)
+        return status;
+    out = a.values[0] != NULL ? a.values[0] : "-";
+    if (!good_arguments(&a, out))
+        return STATUS_BAD;
+    t.name = strcmp(a.operands[0], "-") == 0 ? "standard input" : a.operands[0];
+    t.bytes = load_text(a.operands[0], t.name, &t.length);
+    if (t.bytes == NULL)
+        return STATUS_BAD;
+    status = make_from(&t, a.values[1], out);
+    free(t.bytes);
+    return status;
+}

@@ -1,0 +1,330 @@
+#!/bin/sh
+# Builds the command and tests it: every sub-command, good and bad input, messages and exit status; all kept case files; runs
+# that are cut and resumed; traces; files that cannot be written; the shell's own statement of the rules against the library;
+# then, under valgrind if it is there, every sub-command that reads a case file on every kept one; and damaged files.
+# Prints each failure, and a count. Fails if anything fails; a command that does not end by itself is ended, and has failed.
+set -eu
+cd "$(dirname "$0")/../.."
+CC=${CC:-gcc}
+FLAGS="-std=c99 -D_POSIX_C_SOURCE=200809L -Wall -Wextra -Werror -pedantic"
+LIB=target/staticlib/libdrevokas.a
+ROOT=$PWD
+FILES=tests/cases/files
+EXPECTED=shell/tests/expected
+OUT=target/shell/tests
+
+make -s all
+rm -rf "$OUT"
+mkdir -p "$OUT"
+tests=0
+failed=0
+
+fail() {
+    failed=$((failed + 1))
+    echo "failed: $*" >&2
+}
+
+# The command, ended after 20 seconds with exit status 124. The messages of the test itself go to 3, the first standard error.
+exec 3>&2
+drevokas() {
+    ended=0
+    timeout 20 "$ROOT/target/bin/drevokas" "$@" 3>&- || ended=$?
+    [ "$ended" -ne 124 ] || echo "failed: did not end by itself: drevokas $*" >&3
+    return "$ended"
+}
+
+# call ARGUMENT...: runs the command; its exit status is then in $status, and what it said in out and err.
+call() {
+    status=0
+    drevokas "$@" > "$OUT/out" 2> "$OUT/err" < /dev/null || status=$?
+    tests=$((tests + 1))
+}
+
+# says STATUS OUTPUT MESSAGE ARGUMENT...: the exit status and standard output are these, and standard error has this message
+# in it, or is empty if that is empty.
+says() {
+    want_status=$1 want_out=$2 want_err=$3
+    shift 3
+    call "$@"
+    [ "$status" -eq "$want_status" ] || fail "$*: exit status $status, and not $want_status"
+    [ "$(cat "$OUT/out")" = "$want_out" ] || fail "$*: printed $(cat "$OUT/out"), and not $want_out"
+    case $want_err in
+    '') [ ! -s "$OUT/err" ] || fail "$*: said $(cat "$OUT/err")" ;;
+    *) grep -qF -e "$want_err" "$OUT/err" || fail "$*: said $(cat "$OUT/err"), and not $want_err" ;;
+    esac
+}
+
+# same FILE FILE WHAT: the files are the same.
+same() {
+    tests=$((tests + 1))
+    cmp -s "$1" "$2" || fail "$3: $1 and $2 differ"
+}
+
+# shows NAME ARGUMENT...: standard output is the kept one of this name.
+shows() {
+    kept=$EXPECTED/$1
+    shift
+    call "$@"
+    cmp -s "$OUT/out" "$kept" || fail "$*: the output is not $kept"
+}
+
+test_usage() {
+    says 2 '' 'no sub-command'
+    says 2 '' 'no sub-command fly' fly
+    says 2 '' 'no sub-command -x' -x
+    for sub in run check translate explain make trace; do
+        call "$sub" --help
+        [ "$status" -eq 0 ] && grep -q "^usage: drevokas $sub " "$OUT/out" && [ ! -s "$OUT/err" ] || fail "$sub --help"
+        drevokas --help | grep -q "^  $sub " || fail "--help does not name $sub"
+        call "$sub"
+        [ "$status" -eq 2 ] && [ ! -s "$OUT/out" ] && [ -s "$OUT/err" ] || fail "$sub without arguments"
+        call "$sub" --fly "$FILES/ar.in"
+        [ "$status" -eq 2 ] && [ ! -s "$OUT/out" ] && grep -qF -e --fly "$OUT/err" || fail "$sub --fly"
+    done
+    for sub in run check explain trace; do
+        says 2 '' "$sub: too few arguments: 0, and must be 1" "$sub"
+        says 2 '' "$sub: too many arguments: 2, and must be 1" "$sub" a b
+        says 2 '' "none.in: cannot be read: No such file" "$sub" "$OUT/none.in"
+        says 2 '' "$OUT: cannot be read: Is a directory" "$sub" "$OUT"
+    done
+    says 2 '' 'too few arguments: 1, and must be 2' translate "$FILES/ar.in"
+    says 2 '' 'too many arguments: 3, and must be 2' translate "$FILES/ar.in" 0 1
+    says 2 '' 'cannot be read' translate "$OUT/none.in" 0
+}
+
+test_options() {
+    for sub in run trace; do
+        for value in '' x -1 4294967296 99999999999999999999 1x 0x10 ' 1'; do
+            says 2 '' 'must be a decimal number from 0 to 4294967295' "$sub" "$FILES/ar.in" "--budget=$value"
+        done
+        says 2 '' 'option --budget needs a value' "$sub" "$FILES/ar.in" --budget
+        says 2 '' 'option --after is given twice' "$sub" "$FILES/ar.in" --after a --after b
+    done
+    says 2 '' 'must be a decimal number from 0 to 524288' explain "$FILES/ar.in" --pages 524289
+    says 2 '' 'must be fetch, store or instruction' translate "$FILES/ar.in" 0 --access load
+    for address in '' x 0x 100000000 0x100000000 12345678g -- ' 0' +1; do
+        call translate "$FILES/ar.in" "$address"
+        [ "$status" -eq 2 ] && [ ! -s "$OUT/out" ] && [ -s "$OUT/err" ] || fail "translate ar.in '$address'"
+    done
+    says 0 'B 0 0' '' run "$FILES/budget_7.in" --budget 0
+    says 0 'B 0 3' '' run --budget=3 "$FILES/budget_7.in"
+    says 0 'B 0 3' '' run --budget 3 -- "$FILES/budget_7.in"
+}
+
+# All kept case files, from a name and from standard input.
+test_cases() {
+    for file in "$FILES"/*.in; do
+        name=${file##*/}
+        name=${name%.in}
+        read -r kind rest < "$FILES/$name.out"
+        call run "$file"
+        cmp -s "$OUT/out" "$FILES/$name.out" || fail "run $file: $(cat "$OUT/out"), and not $kind $rest"
+        case $kind$status in
+        R1) grep -q "refused:\|not a case file:" "$OUT/err" || fail "run $file: no reason" ;;
+        H0) grep -q "at host address" "$OUT/err" || fail "run $file: no host address" ;;
+        I0 | B0) [ ! -s "$OUT/err" ] || fail "run $file: said $(cat "$OUT/err")" ;;
+        *) fail "run $file: exit status $status" ;;
+        esac
+    done
+    drevokas run - < "$FILES/ar.in" | cmp -s - "$FILES/ar.out" || fail 'run -'
+    tests=$((tests + 1))
+}
+
+test_check() {
+    says 0 good '' check "$FILES/ar.in"
+    says 0 good '' check "$FILES/time_too_large.in"
+    says 0 'I 32: mode is 00 hex: bits 4-5 must be 10, for 370-XA' '' check "$FILES/entry_mode_00.in"
+    says 0 'I 32: mode is 0a hex: bit 6 must be zero, since preferred storage is not installed' '' \
+        check "$FILES/entry_mode_0a.in"
+    says 0 'I 32: origin is 32768 blocks, and must be 32767 at most' '' check "$FILES/entry_origin_32768.in"
+    says 0 'I 32: extent is 0 blocks, and must be 1 at least' '' check "$FILES/entry_extent_0.in"
+    says 0 'I 32: origin 32767 and extent 2 are 32769 blocks together, and must be 32768 at most' '' \
+        check "$FILES/entry_sum_32769.in"
+    says 0 'I 32: prefix: the block at 00010000 hex is not below the extent, which ends at 00010000 hex' '' \
+        check "$FILES/entry_prefix_over_extent.in"
+    says 1 "R 1: the record's length field is 199, and must be 200" '' check "$FILES/record_length_199.in"
+    says 1 "R 2: the record's version is 2, and must be 1" '' check "$FILES/record_version_2.in"
+    says 1 'R 7: bytes 66-71 of the record are 010000000000 hex, and must be zero' '' check "$FILES/byte_66_used.in"
+    says 1 'R 9: case file malformed' 'the version in byte 4 is not 1' check "$FILES/malformed_version_2.in"
+}
+
+test_translate() {
+    says 0 'good 00000200: frame 0, offset 200 hex' '' translate "$FILES/ar.in" 200
+    says 0 'good 00000200: frame 0, offset 200 hex' '' translate "$FILES/ar.in" 0x80000200 --access instruction
+    says 0 'good 00000fff: frame 0, offset fff hex' '' translate "$FILES/ar.in" 0XFFF --access=store
+    says 0 'exception 05: addressing, a program exception of the guest' '' translate "$FILES/ar.in" 10000
+    says 0 'fault 11 00001000: page translation, a host fault at that host address' '' \
+        translate "$FILES/ar.in" 1000 --access fetch
+    says 0 'I 32: extent is 0 blocks, and must be 1 at least' '' translate "$FILES/entry_extent_0.in" 0
+    says 1 "R 2: the record's version is 2, and must be 1" '' translate "$FILES/record_version_2.in" 0
+    says 1 'R 9: case file malformed' 'not a case file' translate "$FILES/malformed_count_9.in" 0
+}
+
+# Files that are not whole, and files that are more than whole.
+test_damaged() {
+    for bytes in 0 1 3 4 5 22 23 222 223 224 225 4000 4320; do
+        head -c "$bytes" "$FILES/ar.in" > "$OUT/cut.in"
+        says 1 'R 9' 'not a case file: the' run "$OUT/cut.in"
+        says 1 'R 9' 'not a case file: the' trace "$OUT/cut.in"
+        says 1 '' 'not a case file: the' explain "$OUT/cut.in"
+    done
+    { cat "$FILES/ar.in"; echo; } > "$OUT/long.in"
+    says 1 'R 9' 'the length in bytes 0-3 is not the number of bytes that follow it' run "$OUT/long.in"
+    says 1 'R 9' 'over 33000 bytes' run /dev/zero
+    says 1 'R 9' 'cut short' run /dev/null
+    says 1 'R 9' 'the frame count in byte 223 is not 1 to 8' run "$FILES/malformed_count_0.in"
+    says 1 'R 9' 'over 33000 bytes' run "$FILES/malformed_count_9.in"
+    says 1 'R 9' 'is not 220 and 4097 for each frame of the count in byte 223' run "$FILES/malformed_count_over.in"
+    says 1 'R 9' 'standard input: not a case file' run -
+}
+
+# cut_at FILE UNITS BUDGET: the run that is cut after so many units and resumed leaves the same as whole.after.
+cut_at() {
+    drevokas run "$1" --budget "$2" --after "$OUT/part.after" > "$OUT/part"
+    drevokas run "$OUT/part.after" --budget $(($3 - $2)) --after "$OUT/cut.after" > "$OUT/rest" 2> /dev/null
+    [ "$(cat "$OUT/part")" = "B 0 $2" ] || fail "$1 cut after $2: the first part ended with $(cat "$OUT/part")"
+    same "$OUT/cut.after" "$OUT/whole.after" "$1 cut after $2"
+}
+
+# Every kept case file that completes a unit: cut and resumed, and traced; both leave what the whole run leaves.
+test_resumption() {
+    for file in "$FILES"/*.in; do
+        read -r kind number units < "${file%in}out"
+        [ "$kind" != R ] && [ "$units" -ge 1 ] && [ "$units" -le 1000 ] || continue
+        drevokas run "$file" --after "$OUT/whole.after" > "$OUT/whole" 2> /dev/null
+        budget=100
+        [ "$kind" != B ] || budget=$units
+        cut_at "$file" 1 "$budget"
+        [ "$units" -lt 2 ] || cut_at "$file" $((units / 2)) "$budget"
+        [ "$units" -lt 2 ] || cut_at "$file" "$units" "$budget"
+        drevokas trace "$file" --after "$OUT/trace.after" > "$OUT/trace" 2> /dev/null
+        same "$OUT/trace.after" "$OUT/whole.after" "$file traced"
+        [ "$(tail -n 1 "$OUT/trace")" = "$kind $number $units" ] || fail "trace $file: $(tail -n 1 "$OUT/trace")"
+        [ "$(wc -l < "$OUT/trace")" -eq $((units + 1)) ] || fail "trace $file: not one line a unit"
+    done
+}
+
+# Budgets over 65,535, and pipes.
+test_slices() {
+    says 0 'B 0 200000' '' run "$FILES/budget_65535.in" --budget 200000 --after "$OUT/whole.after"
+    cut_at "$FILES/budget_65535.in" 70000 200000
+    cut_at "$FILES/budget_65535.in" 131070 200000
+    drevokas run "$FILES/budget_65535.in" --budget 65536 --after - 2> "$OUT/err" |
+        drevokas run - --budget 134464 --after "$OUT/cut.after" > "$OUT/rest"
+    [ "$(cat "$OUT/err")" = 'B 0 65536' ] || fail "run --after -: $(cat "$OUT/err")"
+    same "$OUT/cut.after" "$OUT/whole.after" 'run --after - into run -'
+    drevokas trace "$FILES/budget_65535.in" --budget 70000 | tail -n 1 | grep -qx 'B 0 70000' || fail 'trace --budget 70000'
+    drevokas run "$FILES/budget_7.in" --after "$OUT/whole.after" > "$OUT/whole"
+    drevokas trace "$FILES/budget_7.in" --after - 2> "$OUT/err" | cmp -s - "$OUT/whole.after" || fail 'trace --after -'
+    [ "$(tail -n 1 "$OUT/err")" = 'B 0 7' ] || fail 'trace --after -: lines'
+    tests=$((tests + 3))
+}
+
+# Nothing is left half-written, and what is there stays.
+test_unwritable() {
+    mkdir "$OUT/folder"
+    echo kept > "$OUT/folder/old"
+    says 2 'B 0 7' 'none/after.in: cannot be written: No such file' run "$FILES/budget_7.in" --after "$OUT/none/after.in"
+    says 2 'B 0 7' "$OUT/folder: cannot be written: Is a directory" run "$FILES/budget_7.in" --after "$OUT/folder"
+    says 2 'B 0 7' 'cannot be written: No space left' run "$FILES/budget_7.in" --after /dev/full
+    (failed=0 && ulimit -f 1 &&
+        says 2 'B 0 7' 'cannot be written: File too large' run "$FILES/budget_7.in" --after "$OUT/folder/old" &&
+        exit "$failed") || fail 'a file that grows too large'
+    says 1 'R 2' "the record's version is 2" run "$FILES/record_version_2.in" --after "$OUT/folder/new"
+    says 1 'R 9' 'not a case file' run "$FILES/malformed_version_2.in" --after "$OUT/folder/new"
+    [ "$(ls "$OUT/folder")" = old ] && [ "$(cat "$OUT/folder/old")" = kept ] || fail "left behind: $(ls "$OUT/folder")"
+    [ -z "$(find "$OUT" -name '*.??????')" ] || fail "left behind: $(find "$OUT" -name '*.??????')"
+    for sub in run check explain trace; do
+        status=0
+        drevokas "$sub" "$FILES/budget_7.in" > /dev/full 2> "$OUT/err" || status=$?
+        [ "$status" -eq 2 ] && grep -q 'standard output cannot be written' "$OUT/err" || fail "$sub > /dev/full"
+        status=0
+        drevokas "$sub" "$FILES/budget_7.in" >&- 2> "$OUT/err" || status=$?
+        [ "$status" -eq 2 ] && grep -q 'standard output cannot be written' "$OUT/err" || fail "$sub >&-"
+        tests=$((tests + 2))
+    done
+    drevokas run "$FILES/budget_7.in" --after "$OUT/whole.after" > "$OUT/whole"
+    drevokas run "$FILES/budget_7.in" --after "$OUT/cut.after" <&- >&- 2>&- || true
+    same "$OUT/cut.after" "$OUT/whole.after" 'run --after with all standard streams closed'
+}
+
+# A link stands for its file; permissions stay; a file may be run into itself.
+test_after() {
+    cp "$FILES/budget_7.in" "$OUT/self.in"
+    chmod 640 "$OUT/self.in"
+    ln -s self.in "$OUT/link.in"
+    says 0 'B 0 4' '' run "$OUT/self.in" --budget 4 --after "$OUT/link.in"
+    says 0 'B 0 3' '' run "$OUT/link.in" --budget 3 --after "$OUT/self.in"
+    drevokas run "$FILES/budget_7.in" --after "$OUT/whole.after" > "$OUT/whole"
+    same "$OUT/self.in" "$OUT/whole.after" 'run into itself'
+    [ -L "$OUT/link.in" ] || fail 'a link is replaced'
+    [ "$(ls -l "$OUT/self.in" | cut -c 1-10)" = -rw-r----- ] || fail "permissions: $(ls -l "$OUT/self.in")"
+}
+
+# The text form; more of it in the examples and in fuzz.sh.
+test_make() {
+    says 0 '' '' make shell/tests/rich.txt -o "$OUT/rich.in"
+    drevokas make shell/tests/rich.txt | cmp -s - "$OUT/rich.in" || fail 'make to standard output'
+    drevokas make - < shell/tests/rich.txt | cmp -s - "$OUT/rich.in" || fail 'make from standard input'
+    tests=$((tests + 2))
+    printf 'time = 1us\nnonsense = 1\n' > "$OUT/wrong.txt"
+    says 2 '' 'wrong.txt:2: ' make "$OUT/wrong.txt" -o "$OUT/wrong.in"
+    [ ! -e "$OUT/wrong.in" ] || fail 'make: a case file in spite of an error'
+    says 2 '' 'none.txt' make "$OUT/none.txt" -o "$OUT/wrong.in"
+    says 2 '' 'none/rich.in' make shell/tests/rich.txt -o "$OUT/none/rich.in"
+    for text in examples/*.txt; do
+        says 0 '' '' make "$text" -o "$OUT/example.in"
+        says 0 good '' check "$OUT/example.in"
+    done
+}
+
+# What a person reads, word for word.
+test_views() {
+    shows rich.explain explain "$OUT/rich.in"
+    for name in page_invalid_stored cross_store_host_4 timer_negative; do
+        shows "$name.explain" explain "$FILES/$name.in"
+    done
+    for name in page_invalid_stored svc_stored malformed_psw_to_wait odd_address_stored cross_text_page_invalid_stored \
+        wrap_2_31_next; do
+        shows "$name.trace" trace "$FILES/$name.in"
+    done
+    for file in "$FILES"/*.in; do
+        read -r kind number < "${file%in}out"
+        call explain "$file"
+        case $kind$status in
+        R1) grep -q "refused:\|not a case file:" "$OUT/err" || fail "explain $file: no reason" ;;
+        [HIB]0) [ -s "$OUT/out" ] && [ ! -s "$OUT/err" ] || fail "explain $file: said $(cat "$OUT/err")" ;;
+        *) fail "explain $file: exit status $status" ;;
+        esac
+    done
+}
+
+# The shell's own statement of the rules against the library; and a memory checker over everything.
+test_programs() {
+    sources=$(ls shell/*.c | grep -v '/main\.c$')
+    "$CC" $FLAGS -O2 -o "$OUT/test_rules" shell/tests/test_rules.c $sources $LIB
+    timeout 120 "$OUT/test_rules" "$FILES"/*.in || fail test_rules
+    "$CC" $FLAGS -O1 -g -o "$OUT/many" shell/tests/many.c $sources $LIB
+    tests=$((tests + 1))
+    command -v valgrind > /dev/null || return 0
+    timeout 300 valgrind -q --error-exitcode=99 --leak-check=full "$OUT/many" "$OUT" "$FILES"/*.in "$OUT/rich.in" \
+        > /dev/null 2> "$OUT/valgrind" || fail "valgrind: $(grep -v '^drevokas: ' "$OUT/valgrind" | head -n 40)"
+    tests=$((tests + 1))
+}
+
+test_usage
+test_options
+test_cases
+test_check
+test_translate
+test_damaged
+test_resumption
+test_slices
+test_unwritable
+test_after
+test_make
+test_views
+test_programs
+timeout 300 sh shell/tests/fuzz.sh || fail shell/tests/fuzz.sh
+echo "$tests shell tests, $failed failed"
+[ "$failed" -eq 0 ]

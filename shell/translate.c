@@ -1,0 +1,103 @@
+/* drevokas translate: where one byte of the guest is. */
+#include <stdio.h>
+#include <string.h>
+
+#include "../include/drevokas.h"
+#include "arguments.h"
+#include "command.h"
+#include "words.h"
+
+static const struct usage usage = {
+    "translate FILE ADDRESS [--access fetch|store|instruction]",
+    "Translates a guest logical address of a case file, or of standard input if FILE is -. ADDRESS is hexadecimal, with or\n"
+    "without 0x, and wraps by the PSW's addressing mode. Prints one line; numbers before the colon are hexadecimal, but for\n"
+    "I and R:\n"
+    "  good ADDRESS: SENTENCE         the host absolute address\n"
+    "  exception CODE: SENTENCE       the guest's program exception\n"
+    "  fault CODE ADDRESS: SENTENCE   the host fault and its host virtual address\n"
+    "  I 32: SENTENCE                 entry would fail, and why\n"
+    "  R NUMBER: SENTENCE             refused, and why\n\n"
+    "  --access KIND    fetch (an operand; if nothing is said), store, or instruction\n\n"
+    "Exit status: 0, 1 if it is refused, 2 for bad usage or a file that cannot be read.\n",
+    2, {"--access"},
+};
+
+/* The access kind of this name; fetch for NULL. */
+static int access_kind(const char *name, uint32_t *access)
+{
+    if (name == NULL || strcmp(name, "fetch") == 0)
+        *access = DREVOKAS_OPERAND_FETCH;
+    else if (strcmp(name, "store") == 0)
+        *access = DREVOKAS_STORE;
+    else if (strcmp(name, "instruction") == 0)
+        *access = DREVOKAS_INSTRUCTION_FETCH;
+    else {
+        complain("--access %s: must be fetch, store or instruction", name);
+        return STATUS_BAD;
+    }
+    return GO_ON;
+}
+
+static int address_of(const char *text, uint64_t *address)
+{
+    if (hex_number(text, 0xffffffffu, address) == 0)
+        return GO_ON;
+    complain("address %s: must be a hexadecimal number of 32 bits, with or without 0x", text);
+    return STATUS_BAD;
+}
+
+static int print_answer(const struct case_file *c, uint64_t answer, uint64_t where)
+{
+    unsigned number = (unsigned)drevokas_number(answer);
+    unsigned long at = (unsigned long)where;
+    char text[SENTENCE];
+
+    switch (drevokas_kind(answer)) {
+    case DREVOKAS_GOOD:
+        printf("good %08lx: frame %lu, offset %03lx hex\n", at, at / FRAME_BYTES, at % FRAME_BYTES);
+        return STATUS_GOOD;
+    case DREVOKAS_PROGRAM_EXCEPTION:
+        printf("exception %02x: %s, a program exception of the guest\n", number, program_words(number));
+        return STATUS_GOOD;
+    case DREVOKAS_HOST_FAULT:
+        printf("fault %02x %08lx: %s, a host fault at that host address\n", number, at, program_words(number));
+        return STATUS_GOOD;
+    case DREVOKAS_INTERCEPTED:
+        entry_sentence(c->record, text, sizeof text);
+        printf("I %u: %s\n", number, text);
+        return STATUS_GOOD;
+    default:
+        refusal_sentence(number, c, text, sizeof text);
+        printf("R %u: %s\n", number, text);
+        return STATUS_REFUSED;
+    }
+}
+
+static int translate(const struct case_file *c, uint32_t address, uint32_t access)
+{
+    uint64_t where = 0;
+    uint64_t answer = drevokas_translate(c->record, RECORD_BYTES, c->storage, (size_t)c->frames * FRAME_BYTES, c->keys, c->frames,
+                                         c->designation, address, access, &where);
+
+    return print_answer(c, answer, where);
+}
+
+int command_translate(int argc, char **argv)
+{
+    struct arguments a;
+    struct case_file c;
+    uint32_t access = 0;
+    uint64_t address = 0;
+    int status = sort_arguments(argc, argv, &usage, &a);
+
+    if (status == GO_ON)
+        status = access_kind(a.values[0], &access);
+    if (status == GO_ON)
+        status = address_of(a.operands[1], &address);
+    if (status != GO_ON)
+        return status;
+    status = load(a.operands[0], &c);
+    if (status == STATUS_REFUSED)
+        printf("R 9: case file malformed\n");
+    return finished(status == GO_ON ? translate(&c, (uint32_t)address, access) : status);
+}

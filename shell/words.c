@@ -1,0 +1,127 @@
+#include "words.h"
+
+#include <stdio.h>
+#include <string.h>
+
+#include "fields.h"
+
+struct word {
+    unsigned number;
+    const char *words;
+};
+
+static const struct word program_codes[] = {
+    {0x01, "operation"},
+    {0x02, "privileged operation"},
+    {0x04, "protection"},
+    {0x05, "addressing"},
+    {0x06, "specification"},
+    {0x08, "fixed-point overflow"},
+    {0x10, "segment translation"},
+    {0x11, "page translation"},
+    {0x12, "translation specification"},
+};
+
+static const struct word interception_codes[] = {
+    {4, "instruction"},
+    {8, "program exception"},
+    {16, "external request"},
+    {20, "external interruption"},
+    {24, "I/O request"},
+    {28, "wait state"},
+    {32, "validity"},
+    {40, "stop request"},
+    {44, "operation exception"},
+};
+
+static const char *look_up(const struct word *words, size_t count, unsigned number)
+{
+    size_t i;
+
+    for (i = 0; i < count; i++)
+        if (words[i].number == number)
+            return words[i].words;
+    return "not a code of this machine";
+}
+
+const char *program_words(unsigned code)
+{
+    return look_up(program_codes, sizeof program_codes / sizeof *program_codes, code);
+}
+
+const char *interception_words(unsigned code)
+{
+    return look_up(interception_codes, sizeof interception_codes / sizeof *interception_codes, code);
+}
+
+static unsigned long long field(const uint8_t *record, const char *name)
+{
+    return get_field(record, find_field(name));
+}
+
+void refusal_sentence(unsigned number, const struct case_file *c, char *text, size_t room)
+{
+    switch (number) {
+    case 1:
+        snprintf(text, room, "the record's length field is %llu, and must be 200", field(c->record, "length"));
+        break;
+    case 2:
+        snprintf(text, room, "the record's version is %llu, and must be 1", field(c->record, "version"));
+        break;
+    case 6:
+        snprintf(text, room, "the time per unit is %lu clock units, and must be 1048576 at most", (unsigned long)c->time);
+        break;
+    case 7:
+        snprintf(text, room, "bytes 66-71 of the record are %012llx hex, and must be zero", field(c->record, "reserved"));
+        break;
+    case 9:
+        snprintf(text, room, "case file malformed");
+        break;
+    default:    /* a case file has whole frames, a key for each, and a budget of 16 bits */
+        snprintf(text, room, "refused by the library");
+        break;
+    }
+}
+
+int entry_sentence(const uint8_t *record, char *text, size_t room)
+{
+    unsigned mode = (unsigned)field(record, "mode");
+    unsigned long origin = (unsigned long)field(record, "origin"), extent = (unsigned long)field(record, "extent");
+    unsigned long prefix = (unsigned long)field(record, "prefix") & 0x7ffff000;
+
+    text[0] = '\0';
+    if ((mode & 0x0c) != 0x08)
+        snprintf(text, room, "mode is %02x hex: bits 4-5 must be 10, for 370-XA", mode);
+    else if (mode & 0x02)
+        snprintf(text, room, "mode is %02x hex: bit 6 must be zero, since preferred storage is not installed", mode);
+    else if (origin > 32767)
+        snprintf(text, room, "origin is %lu blocks, and must be 32767 at most", origin);
+    else if (extent == 0)
+        snprintf(text, room, "extent is 0 blocks, and must be 1 at least");
+    else if (origin + extent > 32768)
+        snprintf(text, room, "origin %lu and extent %lu are %lu blocks together, and must be 32768 at most", origin, extent,
+                 origin + extent);
+    else if (prefix + 4096 > extent * 65536)
+        snprintf(text, room, "prefix: the block at %08lx hex is not below the extent, which ends at %08lx hex", prefix,
+                 extent * 65536);
+    return text[0] != '\0';
+}
+
+void microseconds(int negative, uint64_t units, char *text, size_t room)
+{
+    char fraction[16];
+    size_t digits = 12;     /* 2^-12 has twelve decimal places */
+
+    snprintf(fraction, sizeof fraction, "%012llu", (unsigned long long)(units & 4095) * 244140625u);
+    while (digits > 0 && fraction[digits - 1] == '0')
+        digits--;
+    fraction[digits] = '\0';
+    snprintf(text, room, "%s%llu%s%s", negative ? "-" : "", (unsigned long long)(units >> 12), digits > 0 ? "." : "", fraction);
+}
+
+void signed_microseconds(uint64_t value, char *text, size_t room)
+{
+    int negative = value >> 63 != 0;
+
+    microseconds(negative, negative ? 0 - value : value, text, room);
+}
