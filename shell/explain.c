@@ -35,9 +35,9 @@ static void explain_numbers(const struct case_file *c)
            (unsigned long)c->designation, (unsigned long)c->designation & 0x7ffff000, (unsigned long)c->designation & 0x7f,
            (((unsigned long)c->designation & 0x7f) + 1) * 16);
     microseconds(0, c->clock, time, sizeof time);
-    printf("  clock          %016llx  %s microseconds\n", (unsigned long long)c->clock, time);
+    printf("  clock          %016llx  %s us\n", (unsigned long long)c->clock, time);
     microseconds(0, c->time, time, sizeof time);
-    printf("  time per unit  %-16lu  clock units, %s microseconds%s\n", (unsigned long)c->time, time,
+    printf("  time per unit  %-16lu  clock units, %s us%s\n", (unsigned long)c->time, time,
            c->time > DREVOKAS_MOST_TIME ? ": over 1048576 clock units, so a run is refused (R 6)" : "");
     printf("  budget         %-16u  units\n", (unsigned)c->budget);
     printf("  storage        %-16u  frames, %08lx-%08lx\n", c->frames, 0ul, (unsigned long)c->frames * FRAME_BYTES - 1);

@@ -162,7 +162,7 @@ static void epoch_words(const uint8_t *record, uint64_t value, char *text)
 
     (void)record;
     signed_microseconds(value, time, sizeof time);
-    add(text, "epoch difference: %s microseconds from the host clock to the guest clock", time);
+    add(text, "epoch difference: %s us from the host clock to the guest clock", time);
 }
 
 static void svc_words(const uint8_t *record, uint64_t value, char *text)

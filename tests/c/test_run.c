@@ -191,6 +191,39 @@ static void test_cut_at_every_unit(void)
     }
 }
 
+/* A guest page that leads to the frame of the host's page table: what the guest stores there holds from the next unit on, for the pages
+   that were used before, too. */
+static void test_tables_stored_into(void)
+{
+    static const uint8_t text[] = {
+        0x58, 0x10, 0x20, 0x00, /* L 1,0(2) */
+        0x50, 0x00, 0x60, 0x00, /* ST 0,0(6): a store elsewhere */
+        0x58, 0x30, 0x20, 0x00, /* L 3,0(2) */
+        0x50, 0x70, 0x40, 0x04, /* ST 7,4(4): page 1 leads to frame 6 */
+        0x58, 0x50, 0x20, 0x00, /* L 5,0(2) */
+        0x50, 0x80, 0x40, 0x00, /* ST 8,0(4): page 0, with this text, leads to frame 7 */
+        0x18, 0x99,             /* LR 9,9 in frame 3 */
+    };
+    struct machine m = guest(text, sizeof text);
+    uint64_t where = NOT_TOUCHED;
+
+    put32(m.storage.at + 8196, 0x4000); /* pages 1, 2 and 3: frames 4, 2 and 5 */
+    put32(m.storage.at + 8200, 0x2000);
+    put32(m.storage.at + 8204, 0x5000);
+    put32(m.storage.at + 4 * 4096, 44);
+    put32(m.storage.at + 6 * 4096, 66);
+    m.storage.at[7 * 4096 + START + 24] = 0x18; /* LR 9,2 in frame 7 */
+    m.storage.at[7 * 4096 + START + 25] = 0x92;
+    put_general(&m, 2, 0x1000);
+    put_general(&m, 4, 0x2000);
+    put_general(&m, 6, 0x3000);
+    put_general(&m, 7, 0x6000);
+    put_general(&m, 8, 0x7000);
+    EXPECT(run(&m, 0, 1, 7, &where) == ended(DREVOKAS_BUDGET_USED, 0, 7));
+    EXPECT(general(&m, 1) == 44 && general(&m, 3) == 44 && general(&m, 5) == 66 && general(&m, 9) == 0x1000);
+    discard(&m);
+}
+
 int main(void)
 {
     test_loop();
@@ -200,5 +233,6 @@ int main(void)
     test_supervisor_call();
     test_operation_exception();
     test_cut_at_every_unit();
+    test_tables_stored_into();
     return expect_end();
 }

@@ -1,2 +1,3 @@
 pub mod Halfwords
 pub mod Texts
+pub mod Order

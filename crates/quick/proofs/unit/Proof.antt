@@ -7,7 +7,7 @@ use lib.ListN.{length, getD}
 use borrow.Author.Needs.{needs}
 use Rattle.machine.specs.Opcodes.{opcodeOf}
 use Rattle.text.specs.Fetching.{whole}
-use Rattle.unit.proofs.Order.{fetch-whole}
+use Rattle.text.proofs.Order.{fetch-whole}
 use Rattle.quick.specs.Stepping.{shortText, textFrame, doneOf}
 use Rattle.quick.proofs.unit.Statement.{statement}
 use Rattle.quick.proofs.unit.Tie as tie

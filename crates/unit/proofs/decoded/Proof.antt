@@ -4,7 +4,7 @@ use borrow.Author.Needs.{needs}
 use native.Mathlib.Omega.{arith}
 use mathlib.Core.Path.{refl, ap, sym, _∙_}
 use Rattle.machine.specs.Host.{host}
-use Rattle.unit.proofs.Order.{decoded-forbidden, decoded-intercepted, decoded-misaligned, decoded-executed}
+use Rattle.text.proofs.Order.{decoded-forbidden, decoded-intercepted, decoded-misaligned, decoded-executed}
 use Rattle.machine.specs.Units.{misaligned}
 use Rattle.unit.proofs.decoded.Statement.{statement}
 use Rattle.unit.proofs.decoded.Tie as tie

@@ -3,7 +3,7 @@
 use borrow.Author.Needs.{needs}
 use mathlib.Core.Path.{refl}
 use Rattle.machine.specs.Host.{host}
-use Rattle.unit.proofs.Order.{fetch-failed, fetch-whole}
+use Rattle.text.proofs.Order.{fetch-failed, fetch-whole}
 use Rattle.unit.proofs.instruction.Statement.{statement}
 use Rattle.unit.proofs.instruction.Tie as tie
 

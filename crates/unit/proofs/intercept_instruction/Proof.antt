@@ -3,7 +3,7 @@
 use mathlib.Core.Path.{refl, ap, _∙_}
 use Rattle.machine.specs.Psw.{withPsw}
 use Rattle.execute.specs.After.{leftBy}
-use Rattle.unit.proofs.Order.{instruction-intercepted}
+use Rattle.text.proofs.Order.{instruction-intercepted}
 use borrow.Author.Needs.{needs}
 use Rattle.unit.proofs.intercept_instruction.Statement.{statement}
 use Rattle.unit.proofs.intercept_instruction.Tie as tie

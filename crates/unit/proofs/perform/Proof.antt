@@ -4,7 +4,7 @@ use native.Mathlib.Omega.{arith}
 use mathlib.Core.Path.{refl}
 use Rattle.machine.specs.Host.{host}
 use Rattle.machine.specs.Execute.{execute}
-use Rattle.unit.proofs.Order.{performed, performed-unassigned}
+use Rattle.text.proofs.Order.{performed, performed-unassigned}
 use borrow.Author.Needs.{needs}
 use Rattle.unit.proofs.perform.Statement.{statement}
 use Rattle.unit.proofs.perform.Tie as tie

@@ -3,7 +3,7 @@
 use borrow.Author.Needs.{needs}
 use mathlib.Core.Path.{refl}
 use Rattle.machine.specs.Host.{host}
-use Rattle.unit.proofs.Order.{after-list}
+use Rattle.text.proofs.Order.{after-list}
 use Rattle.unit.proofs.unit.Statement.{statement}
 use Rattle.unit.proofs.unit.Tie as tie
 

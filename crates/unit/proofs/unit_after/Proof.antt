@@ -7,7 +7,7 @@ use Rattle.machine.specs.Host.{host, view}
 use Rattle.machine.specs.Units.{started}
 use Rattle.machine.specs.Psw.{withPsw}
 use Rattle.execute.specs.After.{leftBy}
-use Rattle.unit.proofs.Order.{standing-unfetched, after-ends, after-malformed, after-instruction}
+use Rattle.text.proofs.Order.{standing-unfetched, after-ends, after-malformed, after-instruction}
 use Rattle.unit.proofs.unit_after.Statement.{statement}
 use Rattle.unit.proofs.unit_after.Tie as tie
 
