@@ -68,8 +68,8 @@ fn name_entry(storage: &[u8], guard: &mut [u8], designation: u32, guest: Guest, 
     }
 }
 
-// Names the frames of the guest's page entry, by the segment entry.
-fn name_page_entry(storage: &[u8], guard: &mut [u8], designation: u32, guest: Guest, e: TableEntry)
+// Names the frames of the guest table entry at the address that a step led to.
+fn name_through(storage: &[u8], guard: &mut [u8], designation: u32, guest: Guest, e: TableEntry)
     requires { ⌜ (length (now guard) ≡ 64) × Entered guest × Aligned e ⌝ }
     ensures { λ _. ⌜ Wider (now (guard .entry)) (now (guard .exit)) ⌝ }
     ensures { λ _. ⌜ ((t k : List ℕ) → Alike (now (guard .exit)) (now (storage .entry)) t
@@ -113,10 +113,10 @@ fn name_tables(
     }
     let cr1 = control.words[1];
     let leads = storage::table_leads(false, cr1, a);
-    name_page_entry(storage, guard, designation, guest, leads);
+    name_through(storage, guard, designation, guest, leads);
     let segment = address::read_through(storage, designation, guest, leads);
     let page = storage::segment_leads(false, a, segment);
-    name_page_entry(storage, guard, designation, guest, page);
+    name_through(storage, guard, designation, guest, page);
     storage::page_of(
         false,
         a,

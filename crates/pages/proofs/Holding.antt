@@ -30,7 +30,7 @@ use Rattle.address.proofs.Touches.{touched-is, backed-backing}
 use Rattle.guard.specs.Guarding.{Alike}
 use Rattle.pages.specs.declared.Kept.{Kept}
 use Rattle.pages.specs.declared.Page.{Page}
-use Rattle.pages.specs.Keeping.{Leads, Keeps, Holds, Marked, Accesses}
+use Rattle.pages.specs.Keeping.{Leads, Keeps, Holds, Marked, AccessAlike}
 
 -- Storages that are alike.
 
@@ -59,9 +59,6 @@ keeps-same g h i c later kept same keeps =
     }
 
 -- Keys that differ in marks.
-
-pub marked-same : (keys : List ℕ) → Marked keys keys
-marked-same keys i = refl
 
 pub marked-trans : (a b c : List ℕ) → Marked a b → Marked b c → Marked a c
 marked-trans a b c first second i = second i ∙ first i
@@ -154,7 +151,7 @@ holds-marked guard g d s k later c kept marked holds t alike =
 
 -- States whose accesses are guarded alike.
 
-touch-state : (g : Guest) (h : Host) (c later : Cpu) → Accesses (c .psw) (later .psw) → later .control ≡ c .control → (store : Bool) (a : ℕ)
+touch-state : (g : Guest) (h : Host) (c later : Cpu) → AccessAlike (c .psw) (later .psw) → later .control ≡ c .control → (store : Bool) (a : ℕ)
     → touchOf g h later store a ≡ touchOf g h c store a
 unfolding realPage formatGood lowProtected touched settled keyProtects
 touch-state g h c later accesses controls store a =
@@ -184,7 +181,7 @@ touch-state g h c later accesses controls store a =
     in-page (Failed f) = refl
     in-page (walks.Page frame protected) = let at = prefixed g (frame * 4096 + a % 4096) in by-host protected at (backing g h at)
 
-pub holds-state : (guard : List ℕ) (g : Guest) (h : Host) (c later : Cpu) (kept : Kept) → Accesses (c .psw) (later .psw) → later .control ≡ c .control
+pub holds-state : (guard : List ℕ) (g : Guest) (h : Host) (c later : Cpu) (kept : Kept) → AccessAlike (c .psw) (later .psw) → later .control ≡ c .control
     → Holds guard g h c kept → Holds guard g h later kept
 holds-state guard g h c later kept accesses controls holds t alike =
     let i : Host = host (h .designation) t (h .keys) in

@@ -43,8 +43,8 @@ abbrev pub Marked : List ℕ → List ℕ → Type 0
 Marked keys later = (i : ℕ) → getD later i 0 / 8 ≡ getD keys i 0 / 8
 
 -- PSWs that differ behind bit 17 alone: the condition code, the program mask, the addressing mode and the address guard no access
-abbrev pub Accesses : Psw → Psw → Type 0
-Accesses psw later = later .left / 16384 ≡ psw .left / 16384
+abbrev pub AccessAlike : Psw → Psw → Type 0
+AccessAlike psw later = later .left / 16384 ≡ psw .left / 16384
 
 -- with a page of one kind: 1 for texts, 2 for operands that are fetched, else for operands that are stored
 unfoldable pub withPage : Kept → ℕ → Page → Kept

@@ -19,7 +19,7 @@ use Rattle.address.specs.Operands.{markFrame}
 use Rattle.execute.specs.After.{leftBy, markText, Left}
 use Rattle.registers.proofs.Ending.{register-set, branched, summed-ends}
 use Rattle.pages.specs.declared.Kept.{Kept}
-use Rattle.pages.specs.Keeping.{Accesses}
+use Rattle.pages.specs.Keeping.{AccessAlike}
 use Rattle.quick.specs.declared.Quick.{Quick}
 use Rattle.quick.specs.Stepping.{textFrame, doneOf, Steps, Stepped}
 use Rattle.quick.proofs.Sparing.{fetch-spares}
@@ -36,7 +36,7 @@ at-psw c false a n = refl
 
 module _ (guard storage keys : List ℕ) (psw : Psw) (kept : Kept) (first second v index base : ℕ) (later : List ℕ)
     (marks : later ≡ markFrame referenced (kept .text .frame) keys) (q : Quick) (to : Psw) (register value : ℕ) (made : q ≡ completed to register value)
-    (spared : Accesses psw to) where
+    (spared : AccessAlike psw to) where
   -- a step that stores nothing, by what it does
   done-so : (o : Progress → Outcome) → Steps o storage keys psw kept first second v index base (completed to register value) storage later
       → Stepped o guard storage keys psw kept first second v index base q storage later

@@ -22,7 +22,7 @@ use Rattle.execute.specs.Reaching.{Does}
 use Rattle.text.specs.Fetching.{FetchedAs, whole}
 use Rattle.guard.specs.Guarding.{Alike}
 use Rattle.pages.specs.declared.Kept.{Kept}
-use Rattle.pages.specs.Keeping.{Leads, Keeps, Marked, Accesses}
+use Rattle.pages.specs.Keeping.{Leads, Keeps, Marked, AccessAlike}
 use Rattle.quick.specs.declared.Quick.{Quick}
 use Rattle.quick.specs.declared.Short.{Short}
 
@@ -61,7 +61,7 @@ Steps o storage keys psw kept first second value index base q storage' keys' =
 pub record Spares (guard storage keys : List ℕ) (psw : Psw) (q : Quick) (storage' keys' : List ℕ) : Type 0 where
   pub bytes : Alike guard storage storage'
   pub marks : Marked keys keys'
-  pub state : Accesses psw (q .psw)
+  pub state : AccessAlike psw (q .psw)
 
 -- a step that is done, and one that is not, which changes nothing
 abbrev pub Stepped : (Progress → Outcome) → List ℕ → List ℕ → List ℕ → Psw → Kept → ℕ → ℕ → ℕ → ℕ → ℕ → Quick → List ℕ → List ℕ → Type 0

@@ -34,8 +34,8 @@ element-copy-out-cr1 c = search needs
 table-leads-requires : tie.Need-table-leads-requires
 table-leads-requires c κs = search needs
 
-name-page-entry-requires : tie.Need-name-page-entry-requires
-name-page-entry-requires c κs =
+name-through-requires : tie.Need-name-through-requires
+name-through-requires c κs =
     let start = c .before .before .before .before .before .before .before .before .before in
     (start .pre .0, start .pre .1, rw (c .before .table-leads .ensures) (aligned-tableLeads _ _ _))
 
@@ -45,8 +45,8 @@ read-through-requires c κs = (c .before .before .before .before .before .before
 segment-leads-requires : tie.Need-segment-leads-requires
 segment-leads-requires c κs = search needs
 
-name-page-entry-requires-2 : tie.Need-name-page-entry-requires-2
-name-page-entry-requires-2 c κs =
+name-through-requires-2 : tie.Need-name-through-requires-2
+name-through-requires-2 c κs =
     let start = c .before .before .before .before .before .before .before .before .before .before .before .before .before .before .before in
     (c .before .before .before .before .guard .given ∙ start .pre .0, start .pre .1, rw (c .before .segment-leads .ensures) (aligned-segmentLeads _ _ _))
 
@@ -67,8 +67,8 @@ returns-3 c =
     let back10 = back7 .before .before .before in
     let back14 = back10 .before .before .before .before in
     let start = back14 .before .before .before .before .before .before in
-    let first = back10 .name-page-entry .ensures in
-    let second = back4 .name-page-entry2 .ensures in (
+    let first = back10 .name-through .ensures in
+    let second = back4 .name-through2 .ensures in (
       λ frame named. second .0 frame (first .0 frame named),
       real-walked _ (start .args .guest) (start .args .designation) (start .args .storage .now) (seen (start .args .psw) _) (start .args .a)
           (eq-eqb _ _ (back14 .before .before .if1 .left))
@@ -94,10 +94,10 @@ name-tables-spec =
     returns-2
     element-copy-out-cr1
     table-leads-requires
-    name-page-entry-requires
+    name-through-requires
     read-through-requires
     segment-leads-requires
-    name-page-entry-requires-2
+    name-through-requires-2
     read-through-requires-2
     page-of-requires
     same-length

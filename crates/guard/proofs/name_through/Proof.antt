@@ -1,11 +1,11 @@
--- `guard::name_page_entry` meets its contract.
+-- `guard::name_through` meets its contract.
 -- Assumes nothing.
 use mathlib.Core.Path.{subst}
 use borrow.Author.Needs.{needs}
 use Rattle.storage.specs.Steps.{readThrough}
 use Rattle.address.specs.Touching.{Aligned}
-use Rattle.guard.proofs.name_page_entry.Statement.{statement}
-use Rattle.guard.proofs.name_page_entry.Tie as tie
+use Rattle.guard.proofs.name_through.Statement.{statement}
+use Rattle.guard.proofs.name_through.Tie as tie
 
 enum-known-e : tie.Need-enum-known-e
 enum-known-e c = search needs
@@ -29,6 +29,6 @@ returns-2 : tie.Need-returns-2
 unfolding readThrough
 returns-2 c = (λ frame named. named, λ t k alike. rw (c .enum-told .given .1))
 
-pub name-page-entry-spec : {M : Type 1} → statement M
-name-page-entry-spec =
+pub name-through-spec : {M : Type 1} → statement M
+name-through-spec =
     tie.close (tie.spec enum-known-e name-entry-requires enum-told same-length returns returns-2)
