@@ -350,12 +350,32 @@ static void print_rows(const struct timed *t, size_t count)
                t[i].plain, t[i].ours / t[i].plain);
 }
 
-int main(void)
+/* So many calls of one row. */
+static int count(const char *name, size_t frames, const char *who, unsigned long calls)
+{
+    struct rig r;
+    size_t i;
+
+    for (i = 0; i < ROWS && strcmp(rows[i].name, name) != 0; i++)
+        ;
+    if (i == ROWS || frames < rows[i].least_frames || frames > 4096 || !build(&r, frames)) {
+        fputs("bench_translate: no such row\n", stderr);
+        return 2;
+    }
+    rows[i].change(&r);
+    time_calls(strcmp(who, "plain") == 0 ? rows[i].plain : rows[i].ours, &r, calls);
+    tear_down(&r);
+    return 0;
+}
+
+int main(int argc, char **argv)
 {
     static struct timed timed[2 * ROWS];
     struct tally t;
     size_t small, large, i;
 
+    if (argc == 5)
+        return count(argv[1], (size_t)strtoul(argv[2], NULL, 10), argv[3], strtoul(argv[4], NULL, 10));
     if (!compare_cases(SEED, COMPARED, &t))
         return 1;
     printf("%d cases the same, seed %d\n\n", COMPARED, SEED);

@@ -1,23 +1,35 @@
 #!/bin/sh
-# Machine instructions a unit, counted by callgrind: repeatable, whatever else the machine does. Needs valgrind and the static library.
+# Machine instructions a call of translate and check, and a unit of run, counted by callgrind: repeatable, whatever else the machine
+# does. Needs valgrind and the static library.
 set -eu
 cd "$(dirname "$0")"
 . ./library.sh
+build bench_translate
 build bench_run
 
-instructions() { # CASE FRAMES WHO UNITS
-    valgrind --tool=callgrind --callgrind-out-file=/dev/null "$OUT/bench_run" "$@" 2>&1 | sed -n 's/.*refs: *//p' | tr -d ,
+instructions() { # PROGRAM CASE FRAMES WHO COUNT
+    program=$1
+    shift
+    valgrind --tool=callgrind --callgrind-out-file=/dev/null "$OUT/$program" "$@" 2>&1 | sed -n 's/.*refs: *//p' | tr -d ,
 }
 
-per_unit() { # CASE FRAMES WHO
-    few=$(instructions "$1" "$2" "$3" 1000)
-    many=$(instructions "$1" "$2" "$3" 11000)
+each() { # PROGRAM CASE FRAMES WHO
+    few=$(instructions "$1" "$2" "$3" "$4" 1000)
+    many=$(instructions "$1" "$2" "$3" "$4" 11000)
     echo $(((many - few + 5000) / 10000))
 }
 
-printf '%-20s %6s %10s %10s\n' case frames drevokas plain
+counted() { # PROGRAM CASE FRAMES
+    printf '%-30s %6s %10s %10s\n' "$2" "$3" "$(each "$1" "$2" "$3" drevokas)" "$(each "$1" "$2" "$3" plain)"
+}
+
+printf '%-30s %6s %10s %10s\n' case frames drevokas plain
+for name in 'DAT off, fetch' 'DAT on, fetch' 'DAT on, store' 'host fault 11 hex' 'segment translation' 'key protection' \
+    'refusal 1' 'refusal 8' 'check, good'; do
+    counted bench_translate "$name" 8
+    counted bench_translate "$name" 4096
+done
 for name in AR+BC AR+BC,DAT L+AR+ST+LA+BC L+AR+ST+LA+BC,DAT SVC SVC,DAT; do
-    for frames in 8 4096; do
-        printf '%-20s %6s %10s %10s\n' "$name" "$frames" "$(per_unit "$name" "$frames" drevokas)" "$(per_unit "$name" "$frames" plain)"
-    done
+    counted bench_run "$name" 8
+    counted bench_run "$name" 4096
 done

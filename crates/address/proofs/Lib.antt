@@ -2,3 +2,4 @@ pub mod Touches
 pub mod Operands
 pub mod Seen
 pub mod Reached
+pub mod Located

@@ -24,17 +24,14 @@ use Rattle.machine.specs.Walk.{segmentIndex, pastSegmentTable, segmentInvalid, 
 use Rattle.machine.specs.Host.{Host, Cell, host, hostVirtual, inFrame, backing, hostPage, cellOf, view}
 use Rattle.machine.specs.Addresses.{prefixed, formatGood, byteOf, entryOf, guestEntry, settle, inPage, lowProtected, realPage, access, reached, denied}
 use Rattle.machine.proofs.Backing.{no-failure, tested, ends-at-page, page-in-storage}
-use Rattle.machine.proofs.Pages.{prefixed-keeps-offset, backing-in-page}
-use Rattle.storage.specs.Entered.{Entered}
-use Rattle.storage.specs.Packed.{packedWalk, unpackedWalk, packedEntry, Low}
+use Rattle.machine.proofs.Pages.{prefixed-keeps-offset, backing-in-page, backing-in-storage}
 use Rattle.storage.specs.Steps.{tableLeads, segmentLeads}
-use Rattle.storage.proofs.Packed.{backing-unpacked, within-backing}
 use Rattle.storage.proofs.Steps.{walk-in-steps}
 use Rattle.address.specs.Touching.{Aligned, Inside, Small, Backed, entryBehind, settled, guestProtects, touched, placed, touchedBy}
 use Rattle.address.specs.declared.Place.the-variants.{At, Denied}
 
--- the keys play no part behind a table entry
-backing-keyless : (g : Guest) (d : ℕ) (s k : List ℕ) (a : ℕ) → backing g (host d s k) a ≡ backing g (host d s []) a
+-- the keys play no part in the host page behind an address
+pub backing-keyless : (g : Guest) (d : ℕ) (s k : List ℕ) (a : ℕ) → backing g (host d s k) a ≡ backing g (host d s []) a
 unfolding backing hostPage
 backing-keyless g d s k a = refl
 
@@ -91,28 +88,13 @@ touched-is g h c store a = by-test (store && lowProtected c a)
     by-test true = refl
     by-test false = in-page (realPage g (view g h) c a)
 
--- the number for a guest table entry, taken apart
-module _ (g : Guest) (d : ℕ) (s : List ℕ) (a x : ℕ) where
-  pub entry-word : x ≡ packedEntry s a (backing g (host d s []) a) → x < 2 ^ 32 → entryBehind s a (backing g (host d s []) a) ≡ Word x
-  unfolding entryBehind packedEntry packedWalk
-  entry-word is low = by-walk (backing g (host d s []) a) is
-    where
-      by-walk : (w : Walk) → x ≡ packedEntry s a w → entryBehind s a w ≡ Word x
-      by-walk (Page frame protected) e = ap Word (sym e)
-      by-walk (Failed f) e = absurd (omega arith)
-
-  pub entry-failed : Entered g → x ≡ packedEntry s a (backing g (host d s []) a) → Low x (backing g (host d s []) a) → (f : Failure) → 2 ^ 32 ≤ x
-      → Failed f ≡ unpackedWalk g a x → entryBehind s a (backing g (host d s []) a) ≡ Unread f
-  unfolding entryBehind packedEntry
-  entry-failed entered is low f high told = by-walk (backing g (host d s []) a) refl is low
-    where
-      by-walk : (w : Walk) → backing g (host d s []) a ≡ w → x ≡ packedEntry s a w → Low x w → entryBehind s a w ≡ Unread f
-      by-walk (Page frame protected) b e under = absurd (omega arith)
-      by-walk (Failed other) b e under = ap (entryBehind s a) (sym b ∙ backing-unpacked g d s a x entered (e ∙ ap packedWalk (sym b)) ∙ sym told)
-
 -- a host page behind an address lies in the storage
 pub inside-backing : (g : Guest) (d : ℕ) (s : List ℕ) (a : ℕ) → Inside s (backing g (host d s []) a)
-inside-backing = within-backing
+inside-backing g d s a = by-walk (backing g (host d s []) a) refl
+  where
+    by-walk : (w : Walk) → backing g (host d s []) a ≡ w → Inside s w
+    by-walk (Failed f) e = tt
+    by-walk (Page frame protected) e = backing-in-storage g (host d s []) a e
 
 -- the steps of a walk lead to aligned entries
 

@@ -1,2 +1,3 @@
 pub mod Touching
 pub mod Operands
+pub mod Locating

@@ -1,5 +1,5 @@
 -- One byte's access by page: what machine's Addresses says of a byte, as the code goes about it.
-use Prim.Native.Nat.{ℕ, _+_, _*_, _%_, _<_}
+use Prim.Native.Nat.{ℕ, _+_, _*_, _%_, _≤_, _<_}
 use mathlib.Core.Path.{_≡_}
 use mathlib.Core.Bool.{Bool, cond, _&&_, _||_}
 use mathlib.Core.List.{List, []}
@@ -13,11 +13,11 @@ use Rattle.machine.specs.declared.TableEntry.the-variants.{Word, Unread}
 use Rattle.machine.specs.declared.Walk.{Walk}
 use Rattle.machine.specs.declared.Walk.the-variants.{Page, Failed}
 use Rattle.machine.specs.Words.{wordAt}
+use Rattle.machine.specs.Refusals.{frameBytes}
 use Rattle.machine.specs.Entry.{pageBytes, extentBytes}
 use Rattle.machine.specs.Failures.{protection, hostFault, exceptionOf}
 use Rattle.machine.specs.Host.{Host, hostVirtual, inFrame, backing, view}
 use Rattle.machine.specs.Addresses.{prefixed, keyProtects, Access, reached, denied, access}
-use Rattle.storage.specs.Packed.{Within}
 use Rattle.address.specs.declared.Place.{Place}
 use Rattle.address.specs.declared.Place.the-variants.{At, Denied}
 
@@ -32,7 +32,8 @@ Aligned (Word at) = at % 4 ≡ 0
 
 -- a page that is found lies in the storage
 abbrev pub Inside : List ℕ → Walk → Type 0
-Inside = Within
+Inside storage (Failed f) = Unit {0}
+Inside storage (Page frame protected) = frame * frameBytes + frameBytes ≤ length storage
 
 -- a page of an address of 32 bits
 abbrev pub Small : Walk → Type 0

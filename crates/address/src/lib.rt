@@ -1,25 +1,31 @@
 // The guest's side of an address: prefixing, guest tables, protection, and where a byte or an operand stands in host storage.
 // Each contract equates with machine's Addresses.
 ghost use mathlib.Core.Path.{_≡_};
-ghost use mathlib.Core.Bool.{_&&_};
+ghost use mathlib.Core.Bool.{cond, _&&_};
 ghost use mathlib.Core.List.{List};
-ghost use Prim.Native.Nat.{ℕ, _%_, _≤_, _<_};
+ghost use Prim.Native.Nat.{ℕ, _*_, _/_, _%_, _≤_, _<_};
 ghost use lib.ListN.{length};
+ghost use Rattle.machine.specs.declared.Cpu.{Cpu};
+ghost use Rattle.machine.specs.Words.{wordAt};
 ghost use Rattle.machine.specs.Refusals.{framesOf};
-ghost use Rattle.machine.specs.Failures.{exceptionOf};
-ghost use Rattle.machine.specs.Psw.{wrap};
-ghost use Rattle.machine.specs.Host.{host, view};
+ghost use Rattle.machine.specs.Failures.{isTranslation, walkException};
+ghost use Rattle.machine.specs.Psw.{wrap, control};
+ghost use Rattle.machine.specs.Walk.{pageIndex, frameOf, pageProtected, walkPage};
+ghost use Rattle.machine.specs.Host.{host, hostVirtual, inFrame, view};
 ghost use Rattle.machine.specs.Addresses.{prefixed, guestEntry, realPage, lowProtected};
 ghost use Rattle.storage.specs.Entered.{Entered};
-ghost use Rattle.storage.specs.Steps.{readThrough};
-ghost use Rattle.address.specs.Touching.{seen, Aligned, Small, Backed, settled, guestProtects, touched, touchOf};
+ghost use Rattle.storage.specs.Steps.{readThrough, tableLeads, segmentLeads, inside};
+ghost use Rattle.storage.specs.Found.{Serves};
+ghost use Rattle.address.specs.Touching.{seen, Aligned, Inside, entryBehind, settled, guestProtects, touched, touchOf};
 ghost use Rattle.address.specs.Operands.{inOnePage, inTwoPages, operandOf};
+ghost use Rattle.address.specs.Locating.{Sees, Fits, exceptionNumber, faultNumber, failureIn, virtualIn, entryIn, pageIn, placeIn};
 use machine::Failure;
 use machine::Guest;
 use machine::Psw;
 use machine::Registers;
 use machine::TableEntry;
 use machine::Walk;
+use storage::Segment;
 
 // Where a byte stands in host storage, or why it cannot be reached.
 pub enum Place {
@@ -27,19 +33,18 @@ pub enum Place {
     Denied(Failure),
 }
 
-const PROTECTION: u32 = 4;
+const PROTECTION: u64 = 4;
 
-const TRANSLATION_SPECIFICATION: u32 = 0x12;
+const ADDRESSING: u64 = 5;
 
-fn exception(code: u32) -> Failure
-    ensures { λ r. ⌜ r ≡ exceptionOf code ⌝ }
-{
-    Failure {
-        host: false,
-        code,
-        address: 0,
-    }
-}
+const SEGMENT: u64 = 0x10;
+
+const PAGE: u64 = 0x11;
+
+const SPECIFICATION: u64 = 0x12;
+
+// Numbers from here on say a failure.
+const STOPPED: u64 = 4294967296;
 
 // Both hold.
 fn both(x: bool, y: bool) -> bool
@@ -65,17 +70,28 @@ pub fn prefixed(guest: Guest, a: u32) -> u32
     a
 }
 
+// The guest table entry at a guest absolute address, by the host page behind it.
+fn entry_in(storage: &[u8], a: u32, page: Walk) -> TableEntry
+    requires { ⌜ Inside (now storage) page × (a % 4 ≡ 0) ⌝ }
+    ensures { λ r. ⌜ r ≡ entryBehind (now (storage .entry)) a page ⌝ }
+{
+    match page {
+        Walk::Page {
+            frame,
+            protected: _,
+        } => TableEntry::Word(words::word_at(storage, frame as usize * 4096 + a as usize % 4096)),
+        Walk::Failed(f) => TableEntry::Unread(f),
+    }
+}
+
 // The guest table entry at a guest real address, whatever the keys are.
 fn guest_entry(storage: &[u8], designation: u32, guest: Guest, real: u32) -> TableEntry
     requires { ⌜ Entered guest × (real % 4 ≡ 0) ⌝ }
     ensures { λ r. ⌜ ((k : List ℕ) → r ≡ guestEntry guest (view guest (host designation (now (storage .entry)) k)) real) ⌝ }
 {
     let at = prefixed(guest, real);
-    let entry = storage::entry_behind(storage, designation, guest.origin, guest.extent, at);
-    if entry < 4294967296 {
-        return TableEntry::Word(entry as u32);
-    }
-    TableEntry::Unread(storage::unpacked_failure(guest.origin, at, entry))
+    let page = storage::backing(storage, designation, guest.origin, guest.extent, at);
+    entry_in(storage, at, page)
 }
 
 // The guest table entry at the address that a step led to.
@@ -89,60 +105,218 @@ pub fn read_through(storage: &[u8], designation: u32, guest: Guest, e: TableEntr
     }
 }
 
-// The real page of a logical address, whatever the keys are.
-fn real_page(
-    storage: &[u8],
-    designation: u32,
-    guest: Guest,
-    psw: Psw,
-    control: Registers,
-    a: u32,
-) -> Walk
+// What addressing looks at: the guest's origin, extent and prefix in bytes, the PSW's left half, and control registers 0 and 1.
+pub struct Space {
+    pub origin: u32,
+    pub extent: u32,
+    pub prefix: u32,
+    pub left: u32,
+    pub cr0: u32,
+    pub cr1: u32,
+}
+
+pub fn space_of(guest: Guest, left: u32, cr0: u32, cr1: u32) -> Space
     requires { ⌜ Entered guest ⌝ }
-    ensures { λ r. ⌜ ((k : List ℕ) → r ≡ realPage guest (view guest (host designation (now (storage .entry)) k)) (seen psw control) a) ⌝ }
+    ensures { λ r. ⌜ Fits r × ((c : Cpu) → left ≡ c .psw .left → cr0 ≡ control c 0 → cr1 ≡ control c 1 → Sees r guest c) ⌝ }
 {
-    if psw.left / 67108864 % 2 != 1 {
-        return Walk::Page {
-            frame: a / 4096,
-            protected: false,
-        };
+    Space {
+        origin: guest.origin as u32 * 65536,
+        extent: guest.extent as u32 * 65536,
+        prefix: guest.prefix * 4096,
+        left,
+        cr0,
+        cr1,
     }
-    let cr0 = control.words[0];
-    if cr0 / 524288 % 32 != 22 {
-        return Walk::Failed(exception(TRANSLATION_SPECIFICATION));
+}
+
+// A guest program exception as a number.
+fn excepted(code: u64) -> u64
+    requires { ⌜ code < 32 ⌝ }
+    ensures { λ r. ⌜ r ≡ exceptionNumber code ⌝ }
+{
+    code * 8589934592
+}
+
+// A host fault of a host virtual address as a number.
+fn faulted(code: u64, v: u32) -> u64
+    requires { ⌜ code < 32 ⌝ }
+    ensures { λ r. ⌜ r ≡ faultNumber v code ⌝ }
+{
+    (code * 2 + 1) * STOPPED + v as u64
+}
+
+// The host virtual address of a guest real one, or addressing. Both blocks that prefixing exchanges lie below the extent.
+fn virtual_of(space: Space, real: u32) -> u64
+    requires { ⌜ Fits space ⌝ }
+    ensures { λ r. ⌜ ((g : Guest) (c : Cpu) → Sees space g c → r ≡ virtualIn g (prefixed g real)) ⌝ }
+{
+    let origin = space.origin as u64;
+    let absolute = real as u64;
+    let at = origin + absolute;
+    if real / 4096 == 0 {
+        return at + space.prefix as u64;
     }
-    let cr1 = control.words[1];
-    let segment = read_through(
-        storage,
-        designation,
-        guest,
-        storage::table_leads(false, cr1, a),
-    );
-    let page = read_through(
-        storage,
-        designation,
-        guest,
-        storage::segment_leads(false, a, segment),
-    );
-    storage::page_of(false, a, page)
+    if real / 4096 * 4096 == space.prefix {
+        return origin + absolute % 4096;
+    }
+    if absolute < space.extent as u64 {
+        return at;
+    }
+    excepted(ADDRESSING)
+}
+
+// Where the guest's segment entry of a logical address stands, by CR1.
+fn by_table(cr1: u32, a: u32) -> u64
+    ensures { λ r. ⌜ tableLeads (walkException a) cr1 a ≡ entryIn a r ⌝ }
+{
+    if cr1 % 128 < a / 1048576 / 16 {
+        return excepted(SEGMENT);
+    }
+    (cr1 / 4096 % 524288 * 4096 + a / 1048576 * 4) as u64
+}
+
+// Where the guest's page entry of a logical address stands, by its segment entry.
+fn by_segment(a: u32, word: u32) -> u64
+    ensures { λ r. ⌜ segmentLeads (walkException a) (pageIndex a) (TableEntry.Word word) ≡ entryIn a r ⌝ }
+{
+    if word / 32 % 2 == 1 {
+        return excepted(SEGMENT);
+    }
+    if word / 2147483648 % 2 == 1 {
+        return excepted(SPECIFICATION);
+    }
+    let index = a / 4096 % 256;
+    if word % 16 < index / 16 {
+        return excepted(PAGE);
+    }
+    (word / 64 % 33554432 * 64 + index * 4) as u64
+}
+
+// The real page of a guest page entry.
+fn by_page(word: u32) -> u64
+    ensures { λ r. ⌜ ((a : ℕ) → walkPage (walkException a) (TableEntry.Word word) ≡ pageIn a r) ⌝ }
+{
+    if word / 1024 % 2 == 1 {
+        return excepted(PAGE);
+    }
+    if word / 2147483648 % 2 == 1 {
+        return excepted(SPECIFICATION);
+    }
+    if word / 2048 % 2 == 1 {
+        return excepted(SPECIFICATION);
+    }
+    if word / 256 % 2 == 1 {
+        return excepted(SPECIFICATION);
+    }
+    word as u64
+}
+
+// The guest table entry at a host virtual address, in the host page that was found for it.
+fn table_word(storage: &[u8], page: u64, v: u32) -> u32
+    ensures { λ r. ⌜ r ≡ cond (inside (now (storage .entry)) (inFrame (frameOf page) v)) (wordAt (now (storage .entry)) (inFrame (frameOf page) v)) v ⌝ }
+{
+    storage::word_or(storage, (page / 4096 % 524288) as u32 * 4096 + v % 4096, v)
+}
+
+// The real page of a logical address as a number, and the host segment entry that was found last.
+struct Real {
+    page: u64,
+    kept: Segment,
+}
+
+// A failure in place of the real page.
+fn without_page(failure: u64) -> Real
+    ensures { λ r. ⌜ (r .page ≡ failure) × ((d : ℕ) (s : List ℕ) → Serves d s (r .kept .index) (r .kept .found)) ⌝ }
+{
+    Real {
+        page: failure,
+        kept: storage::no_segment(),
+    }
+}
+
+// The real page by the guest page entry at a guest real address.
+fn from_page_entry(storage: &[u8], designation: u32, space: Space, real: u32, kept: Segment) -> Real
+    requires { ⌜ Fits space × (real % 4 ≡ 0) × Serves designation (now storage) (kept .index) (kept .found) ⌝ }
+    ensures { λ r. ⌜ Serves designation (now (storage .entry)) (r .kept .index) (r .kept .found) ⌝ }
+    ensures { λ r. ⌜ ((g : Guest) (c : Cpu) → Sees space g c → (k : List ℕ) (a : ℕ)
+        → walkPage (walkException a) (guestEntry g (view g (host designation (now (storage .entry)) k)) real) ≡ pageIn a (r .page)) ⌝ }
+{
+    let at = virtual_of(space, real);
+    if at >= STOPPED {
+        return without_page(at);
+    }
+    let v = at as u32;
+    let segment = storage::segment_for(storage, designation, kept, v);
+    let page = storage::page_for(storage, segment.found, v);
+    if page >= STOPPED {
+        return without_page(faulted(page % STOPPED, v));
+    }
+    Real {
+        page: by_page(table_word(storage, page, v)),
+        kept: segment,
+    }
+}
+
+// The real page of a logical address by the guest segment entry at a guest real address.
+fn from_segment_entry(storage: &[u8], designation: u32, space: Space, a: u32, real: u32) -> Real
+    requires { ⌜ Fits space × (real % 4 ≡ 0) ⌝ }
+    ensures { λ r. ⌜ Serves designation (now (storage .entry)) (r .kept .index) (r .kept .found) ⌝ }
+    ensures { λ r. ⌜ ((g : Guest) (c : Cpu) → Sees space g c → (k : List ℕ)
+        → walkPage (walkException a) (readThrough (guestEntry g (view g (host designation (now (storage .entry)) k)))
+        (segmentLeads (walkException a) (pageIndex a) (guestEntry g (view g (host designation (now (storage .entry)) k)) real))) ≡ pageIn a (r .page)) ⌝ }
+{
+    let at = virtual_of(space, real);
+    if at >= STOPPED {
+        return without_page(at);
+    }
+    let v = at as u32;
+    let segment = storage::segment_for(storage, designation, storage::no_segment(), v);
+    let page = storage::page_for(storage, segment.found, v);
+    if page >= STOPPED {
+        return without_page(faulted(page % STOPPED, v));
+    }
+    let next = by_segment(a, table_word(storage, page, v));
+    if next >= STOPPED {
+        return without_page(next);
+    }
+    from_page_entry(storage, designation, space, next as u32, segment)
+}
+
+// The real page of a logical address.
+fn real_page(storage: &[u8], designation: u32, space: Space, a: u32) -> Real
+    requires { ⌜ Fits space ⌝ }
+    ensures { λ r. ⌜ Serves designation (now (storage .entry)) (r .kept .index) (r .kept .found) ⌝ }
+    ensures { λ r. ⌜ ((g : Guest) (c : Cpu) → Sees space g c → (k : List ℕ)
+        → realPage g (view g (host designation (now (storage .entry)) k)) c a ≡ pageIn a (r .page)) ⌝ }
+{
+    if space.left / 67108864 % 2 != 1 {
+        return without_page((a / 4096 * 4096) as u64);
+    }
+    if space.cr0 / 524288 % 32 != 22 {
+        return without_page(excepted(SPECIFICATION));
+    }
+    let real = by_table(space.cr1, a);
+    if real >= STOPPED {
+        return without_page(real);
+    }
+    from_segment_entry(storage, designation, space, a, real as u32)
 }
 
 // Stores to 0-511 with CR0 bit 3 one.
-fn low_protected(psw: Psw, control: Registers, a: u32) -> bool
-    ensures { λ r. ⌜ r ≡ lowProtected (seen psw control) a ⌝ }
+fn low_protected(cr0: u32, a: u32) -> bool
+    ensures { λ r. ⌜ ((c : Cpu) → cr0 ≡ control c 0 → r ≡ lowProtected c a) ⌝ }
 {
-    let cr0 = control.words[0];
     both(a < 512, cr0 / 268435456 % 2 == 1)
 }
 
 // Guest page protection, then key protection, by the byte's key.
-fn guest_protects(psw: Psw, control: Registers, store: bool, protected: bool, key: u8) -> bool
-    ensures { λ r. ⌜ r ≡ guestProtects (seen psw control) store protected key ⌝ }
+fn guest_protects(left: u32, store: bool, protected: bool, key: u8) -> bool
+    ensures { λ r. ⌜ ((c : Cpu) → left ≡ c .psw .left → r ≡ guestProtects c store protected key) ⌝ }
 {
     if both(store, protected) {
         return true;
     }
-    let access = psw.left / 1048576 % 16;
+    let access = left / 1048576 % 16;
     if access == 0 {
         return false;
     }
@@ -155,75 +329,165 @@ fn guest_protects(psw: Psw, control: Registers, store: bool, protected: bool, ke
     key / 8 % 2 == 1
 }
 
-// The last tests of a byte at a guest absolute address, by the host page behind it.
-fn settle(
-    keys: &[u8],
-    guest: Guest,
-    psw: Psw,
-    control: Registers,
-    store: bool,
-    protected: bool,
-    a: u32,
-    frame: u32,
-    host: bool,
-) -> Place
-    requires { ⌜ Entered guest × Backed guest (now keys) a (Walk.Page frame host) ⌝ }
-    ensures { λ r. ⌜ r ≡ settled guest (now (keys .entry)) store (guestProtects (seen psw control) store protected) a (Walk.Page frame host) ⌝ }
+// The last tests of a byte at a host virtual address, by the host page that was found for it.
+fn settle(keys: &[u8], left: u32, store: bool, protected: bool, v: u32, page: u64) -> u64
+    requires { ⌜ frameOf page < length (now keys) ⌝ }
+    ensures { λ r. ⌜ ((g : Guest) (c : Cpu) (absolute a : ℕ) → left ≡ c .psw .left → v ≡ hostVirtual g absolute
+        → settled g (now (keys .entry)) store (guestProtects c store protected) absolute (Walk.Page (frameOf page) (pageProtected page)) ≡ placeIn a r) ⌝ }
 {
-    if guest_protects(psw, control, store, protected, keys[frame as usize]) {
-        return Place::Denied(exception(PROTECTION));
+    let frame = (page / 4096 % 524288) as u32;
+    if guest_protects(left, store, protected, keys[frame as usize]) {
+        return excepted(PROTECTION);
     }
-    if both(store, host) {
-        return Place::Denied(Failure {
-            host: true,
-            code: PROTECTION,
-            address: guest.origin as u32 * 65536 + a,
-        });
+    if both(store, page / 512 % 2 == 1) {
+        return faulted(PROTECTION, v);
     }
-    Place::At(frame * 4096 + a % 4096)
+    (frame * 4096 + v % 4096) as u64
 }
 
-// A byte of a real page.
+// Where a byte of a real page stands.
 fn in_page(
     storage: &[u8],
     keys: &[u8],
     designation: u32,
-    guest: Guest,
-    psw: Psw,
-    control: Registers,
+    space: Space,
     store: bool,
     a: u32,
-    w: Walk,
-) -> Place
-    requires { ⌜ Entered guest × (framesOf (now storage) ≤ length (now keys)) × Small w ⌝ }
-    ensures { λ r. ⌜ r ≡ touched guest (host designation (now (storage .entry)) (now (keys .entry))) (seen psw control) store a w ⌝ }
+    real: Real,
+) -> u64
+    requires { ⌜ Fits space × (framesOf (now storage) ≤ length (now keys)) × Serves designation (now storage) (real .kept .index) (real .kept .found) ⌝ }
+    ensures { λ r. ⌜ ((g : Guest) (c : Cpu) → Sees space g c
+        → touched g (host designation (now (storage .entry)) (now (keys .entry))) c store a (pageIn a (real .page)) ≡ placeIn a r) ⌝ }
 {
-    match w {
-        Walk::Page { frame, protected } => {
-            let at = prefixed(guest, frame * 4096 + a % 4096);
-            let page = storage::behind(storage, designation, guest.origin, guest.extent, at);
-            if page < 4294967296 {
-                let backed = (page / 2) as u32;
-                let host = page % 2 == 1;
-                return settle(
-                    keys,
-                    guest,
-                    psw,
-                    control,
-                    store,
-                    protected,
-                    at,
-                    backed,
-                    host,
-                );
-            }
-            Place::Denied(storage::unpacked_failure(guest.origin, at, page))
-        }
-        Walk::Failed(f) => Place::Denied(f),
+    let entry = real.page;
+    if entry >= STOPPED {
+        return entry;
+    }
+    let at = virtual_of(space, entry as u32 / 4096 * 4096 + a % 4096);
+    if at >= STOPPED {
+        return at;
+    }
+    let v = at as u32;
+    let kept = real.kept;
+    let segment = storage::segment_for(storage, designation, kept, v);
+    let page = storage::page_for(storage, segment.found, v);
+    if page >= STOPPED {
+        return faulted(page % STOPPED, v);
+    }
+    settle(keys, space.left, store, entry / 512 % 2 == 1, v, page)
+}
+
+// Where the byte at a wrapped logical address stands in host storage, or why it cannot be reached, as one number.
+pub fn locate(
+    storage: &[u8],
+    keys: &[u8],
+    designation: u32,
+    space: Space,
+    store: bool,
+    a: u32,
+) -> u64
+    requires { ⌜ Fits space × (framesOf (now storage) ≤ length (now keys)) ⌝ }
+    ensures { λ r. ⌜ ((g : Guest) (c : Cpu) → Sees space g c → touchOf g (host designation (now (storage .entry)) (now (keys .entry))) c store a ≡ placeIn a r) ⌝ }
+{
+    if both(store, low_protected(space.cr0, a)) {
+        return excepted(PROTECTION);
+    }
+    let real = real_page(storage, designation, space, a);
+    in_page(storage, keys, designation, space, store, a, real)
+}
+
+// The address that an exception of a logical address gives: its page, for 10 and 11 hex.
+fn exception_address(a: u32, code: u32) -> u32
+    ensures { λ r. ⌜ r ≡ cond (isTranslation code) (a / 4096 * 4096) 0 ⌝ }
+{
+    if code as u64 == SEGMENT {
+        return a / 4096 * 4096;
+    }
+    if code as u64 == PAGE {
+        return a / 4096 * 4096;
+    }
+    0
+}
+
+// The failure that a number says of a logical address.
+fn failure_of(a: u32, w: u64) -> Failure
+    ensures { λ r. ⌜ r ≡ failureIn a w ⌝ }
+{
+    let code = (w / 8589934592) as u32;
+    if w / STOPPED % 2 == 1 {
+        return Failure {
+            host: true,
+            code,
+            address: (w % STOPPED) as u32,
+        };
+    }
+    Failure {
+        host: false,
+        code,
+        address: exception_address(a, code),
     }
 }
 
-// Where the byte at a wrapped logical address stands in host storage, or why it cannot be reached.
+// The place that a number says of a logical address.
+pub fn place_of(a: u32, w: u64) -> Place
+    ensures { λ r. ⌜ r ≡ placeIn a w ⌝ }
+{
+    if w < STOPPED {
+        return Place::At(w as u32);
+    }
+    Place::Denied(failure_of(a, w))
+}
+
+// The address of a guest table entry that a number says, for a logical address.
+fn entry_of(a: u32, w: u64) -> TableEntry
+    ensures { λ r. ⌜ r ≡ entryIn a w ⌝ }
+{
+    if w < STOPPED {
+        return TableEntry::Word(w as u32);
+    }
+    TableEntry::Unread(failure_of(a, w))
+}
+
+// The real page that a number says of a logical address.
+fn page_of(a: u32, w: u64) -> Walk
+    ensures { λ r. ⌜ r ≡ pageIn a w ⌝ }
+{
+    if w < STOPPED {
+        return Walk::Page {
+            frame: (w / 4096) as u32,
+            protected: w / 512 % 2 == 1,
+        };
+    }
+    Walk::Failed(failure_of(a, w))
+}
+
+// The steps of the guest's walk, each by itself: where the segment entry stands, where the page entry stands, the real page.
+
+pub fn table_leads(cr1: u32, a: u32) -> TableEntry
+    ensures { λ r. ⌜ r ≡ tableLeads (walkException a) cr1 a ⌝ }
+{
+    entry_of(a, by_table(cr1, a))
+}
+
+pub fn segment_leads(a: u32, e: TableEntry) -> TableEntry
+    ensures { λ r. ⌜ r ≡ segmentLeads (walkException a) (pageIndex a) e ⌝ }
+{
+    match e {
+        TableEntry::Word(w) => entry_of(a, by_segment(a, w)),
+        TableEntry::Unread(f) => TableEntry::Unread(f),
+    }
+}
+
+pub fn page_leads(a: u32, e: TableEntry) -> Walk
+    ensures { λ r. ⌜ r ≡ walkPage (walkException a) e ⌝ }
+{
+    match e {
+        TableEntry::Word(w) => page_of(a, by_page(w)),
+        TableEntry::Unread(f) => Walk::Failed(f),
+    }
+}
+
+// Where the byte at a wrapped logical address stands, for a guest, a PSW and control registers.
 pub fn touch(
     storage: &[u8],
     keys: &[u8],
@@ -237,21 +501,10 @@ pub fn touch(
     requires { ⌜ Entered guest × (framesOf (now storage) ≤ length (now keys)) ⌝ }
     ensures { λ r. ⌜ r ≡ touchOf guest (host designation (now (storage .entry)) (now (keys .entry))) (seen psw control) store a ⌝ }
 {
-    if both(store, low_protected(psw, control, a)) {
-        return Place::Denied(exception(PROTECTION));
-    }
-    let page = real_page(storage, designation, guest, psw, control, a);
-    in_page(
-        storage,
-        keys,
-        designation,
-        guest,
-        psw,
-        control,
-        store,
-        a,
-        page,
-    )
+    let cr0 = control.words[0];
+    let cr1 = control.words[1];
+    let space = space_of(guest, psw.left, cr0, cr1);
+    place_of(a, locate(storage, keys, designation, space, store, a))
 }
 
 // Where an operand stands in host storage: count bytes from first on, and the others from second on; or why it cannot be reached.

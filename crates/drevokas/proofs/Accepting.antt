@@ -2,23 +2,27 @@
 -- Assumes nothing.
 use Prim.Native.Nat.{ℕ, _≤_}
 use native.Mathlib.Omega.{arith}
-use mathlib.Core.Path.{_≡_, refl}
+use mathlib.Core.Path.{_≡_, refl, ap, _∙_}
 use mathlib.Core.Bool.{true}
 use mathlib.Core.List.{List}
 use lib.ListN.{length}
+use Rattle.machine.specs.declared.Cpu.{Cpu}
 use Rattle.machine.specs.declared.Guest.{Guest}
+use Rattle.machine.specs.declared.Psw.{Psw}
+use Rattle.machine.specs.declared.Registers.{Registers}
 use Rattle.machine.specs.declared.Verdict.the-variants.{Accepted}
 use Rattle.machine.specs.declared.Walk.{Walk}
 use Rattle.machine.specs.declared.Walk.the-variants.{Page, Failed}
 use Rattle.machine.specs.Refusals.{framesOf, wrongLength, wrongVersion, wrongStorage, wrongKeys, checkVerdict, translateVerdict}
 use Rattle.machine.specs.Entry.{entryGood}
+use Rattle.machine.specs.Psw.{wrap}
 use Rattle.machine.specs.Host.{Host, backing}
 use Rattle.machine.specs.Addresses.{Access, reached, denied}
 use Rattle.machine.specs.Operations.{addressIn, translatedTo}
 use Rattle.machine.proofs.Verdicts.{accepted-test, length-of-right, keys-of-right}
 use Rattle.storage.specs.Entered.{Entered}
 use Rattle.records.proofs.Entry.{entry-placed}
-use Rattle.address.specs.Touching.{placed, touchedBy}
+use Rattle.address.specs.Touching.{seen, placed, touchedBy}
 use Rattle.drevokas.specs.Packing.{answered}
 
 pub checked-length : (r : List ℕ) → checkVerdict r ≡ Accepted → length r ≡ 200
@@ -49,3 +53,8 @@ answered-is g h (reached l) = by-walk (backing g h (l .absolute))
     by-walk : (w : Walk) → addressIn (l .absolute) w ≡ answered (placed (l .absolute) w)
     by-walk (Failed f) = refl
     by-walk (Page frame protected) = refl
+
+-- the address wraps by the PSW alone
+pub wrapped-is : (c : Cpu) (psw : Psw) (a at : ℕ) → psw ≡ c .psw → ((k : Registers) → at ≡ wrap (seen psw k) a) → at ≡ wrap c a
+unfolding wrap
+wrapped-is c psw a at same wrapped = wrapped (c .control) ∙ ap (λ p. wrap (seen p (c .control)) a) same

@@ -86,27 +86,6 @@ fn answer(x: Place) -> Translated
     }
 }
 
-// The guest as far as addressing looks at it, with nothing else to be made or handed on.
-fn addressed(guest: Guest) -> Guest
-    ensures { λ r. ⌜ (r .origin ≡ guest .origin) × (r .extent ≡ guest .extent) × (r .prefix ≡ guest .prefix) ⌝ }
-{
-    Guest {
-        interventions: 0,
-        mode: 0,
-        interceptions: 0,
-        lctl: 0,
-        prefix: guest.prefix,
-        origin: guest.origin,
-        extent: guest.extent,
-        comparator: 0,
-        epoch: 0,
-        svc: 0,
-        svc1: 0,
-        svc2: 0,
-        svc3: 0,
-    }
-}
-
 // translate, once the input is accepted.
 fn translate_accepted(
     r: &[u8],
@@ -123,17 +102,12 @@ fn translate_accepted(
     if records::entry_good(guest) {
         let psw = records::psw_of(r);
         let control = records::table_controls(r);
+        let cr0 = control.words[0];
+        let cr1 = control.words[1];
+        let space = address::space_of(guest, psw.left, cr0, cr1);
         let at = address::wrapped(psw, a);
-        return answer(address::touch(
-            storage,
-            keys,
-            designation,
-            addressed(guest),
-            psw,
-            control,
-            kind == STORE,
-            at,
-        ));
+        let found = address::locate(storage, keys, designation, space, kind == STORE, at);
+        return answer(address::place_of(at, found));
     }
     Translated::Validity
 }

@@ -294,8 +294,7 @@ pub fn interrupt(
         (now (storage .exit)) (now (keys .exit))) ⌝ }
 {
     let absolute = guest.prefix * 4096 + i.old;
-    let behind = storage::behind(storage, designation, guest.origin, guest.extent, absolute);
-    let page = storage::unpacked(guest.origin, absolute, behind);
+    let page = storage::backing(storage, designation, guest.origin, guest.extent, absolute);
     interrupt_at(storage, keys, guest, start, after, i, t, page)
 }
 

@@ -26,10 +26,7 @@ use Rattle.machine.specs.Addresses.{prefixed, guestEntry, formatGood, lowProtec
 use Rattle.machine.proofs.Laws.{word-of-bytes}
 use Rattle.machine.proofs.Backing.{same-test}
 use Rattle.machine.proofs.Pages.{prefixed-keeps-offset}
-use Rattle.storage.specs.Entered.{Entered}
-use Rattle.storage.specs.Packed.{packedWalk, unpackedWalk}
-use Rattle.storage.specs.Steps.{failing, readThrough, tableLeads, segmentLeads}
-use Rattle.storage.proofs.Packed.{backing-page, backing-unpacked}
+use Rattle.storage.specs.Steps.{readThrough, tableLeads, segmentLeads}
 use Rattle.storage.proofs.Steps.{walk-in-steps}
 use Rattle.address.specs.Touching.{entryBehind, touched, touchOf}
 use Rattle.address.specs.declared.Place.the-variants.{Denied}
@@ -157,23 +154,19 @@ module _ (g : Guest) (d : ℕ) (s : List ℕ) (real : ℕ) (aligned : real % 4 �
   unfolding backing
   entry-above guard above = entry-alike guard (λ below. absurd (omega arith)) (rw (le-ltb at (extentBytes g) above) tt)
 
-  -- by the number for the host page behind the address
-  module _ (guard : List ℕ) (below : HostAlike guard d s (hostVirtual g at)) (w : ℕ) (entered : Entered g) (behind : w ≡ packedWalk (backing g (host d s []) at)) where
-    pub entry-failed : 2 ^ 32 ≤ w → RealEntryAlike guard g d s real
-    unfolding unpackedWalk
-    entry-failed high = entry-alike guard (λ _. below) (rw (backing-unpacked g d s at w entered behind, le-ltb w (2 ^ 32) high) (by-test (eqb (w % 2) 1) _ _))
-      where
-        by-test : (b : Bool) (x y : Failure) → Named guard (cond b (Failed x) (Failed y))
-        by-test true x y = tt
-        by-test false x y = tt
+  -- by the host page behind the address
+  module _ (guard : List ℕ) (below : HostAlike guard d s (hostVirtual g at)) where
+    pub entry-failed : (f : Failure) → backing g (host d s []) at ≡ Failed f → RealEntryAlike guard g d s real
+    entry-failed f behind = entry-alike guard (λ _. below) (rw behind tt)
 
-    pub entry-found : (before more : List ℕ) → Wider before guard → length guard ≡ 64 → w < 2 ^ 32 → more ≡ set guard (w / 2 % 64) 1
+    pub entry-found : (frame : ℕ) (protected : Bool) → backing g (host d s []) at ≡ Page frame protected
+        → (before more : List ℕ) → Wider before guard → length guard ≡ 64 → more ≡ set guard (frame % 64) 1
         → Wider before more × RealEntryAlike more g d s real
-    entry-found before more grown long low is-set =
-        let wider : Wider guard more = rw is-set (wider-set guard (w / 2) long) in
-        let named : Names more (w / 2) = rw is-set (names-it guard (w / 2) long) in (
-          λ frame old. wider frame (grown frame old),
-          entry-alike more (λ _ t k alike. below t k (alike-narrower guard more s t wider alike)) (rw (backing-page g d s at w entered behind low) named),
+    entry-found frame protected behind before more grown long is-set =
+        let wider : Wider guard more = rw is-set (wider-set guard frame long) in
+        let named : Names more frame = rw is-set (names-it guard frame long) in (
+          λ other old. wider other (grown other old),
+          entry-alike more (λ _ t k alike. below t k (alike-narrower guard more s t wider alike)) (rw behind named),
         )
 
 -- the guest table entry at the address that a step led to stays as it is
@@ -207,13 +200,13 @@ module _ (guard : List ℕ) (g : Guest) (d : ℕ) (s : List ℕ) (c : Cpu) (a : 
 
   -- where the walk's two entries are named
   pub real-walked : datOn c ≡ true → formatGood c ≡ true → (leads segment page found : TableEntry) (w : Walk)
-      → leads ≡ tableLeads (failing false a) (control c 1) a
+      → leads ≡ tableLeads (walkException a) (control c 1) a
       → ((k : List ℕ) → segment ≡ readThrough (guestEntry g (view g (host d s k))) leads)
-      → page ≡ segmentLeads (failing false a) (pageIndex a) segment
+      → page ≡ segmentLeads (walkException a) (pageIndex a) segment
       → ((k : List ℕ) → found ≡ readThrough (guestEntry g (view g (host d s k))) page)
-      → w ≡ walkPage (failing false a) found
+      → w ≡ walkPage (walkException a) found
       → (some : List ℕ) → Wider some guard → EntryAlike some g d s leads → EntryAlike guard g d s page → RealFound guard g d s c a w
-  unfolding realPage failing
+  unfolding realPage
   real-walked on good leads segment page found w led read paged met ends some wider first second = (λ t k alike. walked t k alike ∙ here k, here)
     where
       here : (k : List ℕ) → w ≡ realPage g (view g (host d s k)) c a

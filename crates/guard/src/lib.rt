@@ -62,9 +62,12 @@ fn name_entry(storage: &[u8], guard: &mut [u8], designation: u32, guest: Guest, 
         designation,
         guest.origin as u32 * 65536 + at,
     );
-    let page = storage::behind(storage, designation, guest.origin, guest.extent, at);
-    if page < 4294967296 {
-        name_frame(guard, (page / 2) as u32);
+    match storage::backing(storage, designation, guest.origin, guest.extent, at) {
+        Walk::Page {
+            frame,
+            protected: _,
+        } => name_frame(guard, frame),
+        Walk::Failed(_) => {}
     }
 }
 
@@ -112,16 +115,12 @@ fn name_tables(
         });
     }
     let cr1 = control.words[1];
-    let leads = storage::table_leads(false, cr1, a);
+    let leads = address::table_leads(cr1, a);
     name_through(storage, guard, designation, guest, leads);
     let segment = address::read_through(storage, designation, guest, leads);
-    let page = storage::segment_leads(false, a, segment);
+    let page = address::segment_leads(a, segment);
     name_through(storage, guard, designation, guest, page);
-    storage::page_of(
-        false,
-        a,
-        address::read_through(storage, designation, guest, page),
-    )
+    address::page_leads(a, address::read_through(storage, designation, guest, page))
 }
 
 // Names the frames that decide an access to a byte at a wrapped logical address.

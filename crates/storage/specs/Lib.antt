@@ -1,3 +1,3 @@
 pub mod Steps
 pub mod Entered
-pub mod Packed
+pub mod Found

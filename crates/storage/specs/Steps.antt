@@ -1,19 +1,14 @@
 -- The walk in steps that guest and host share: each step takes an address or an entry, or hands a failure on.
 use Prim.Native.Nat.{ℕ, _+_}
-use mathlib.Core.Bool.{Bool, true, false, cond}
+use mathlib.Core.Bool.{Bool, cond}
 use mathlib.Core.List.{List}
 use lib.Dec.{leb}
 use lib.ListN.{length}
 use Rattle.machine.specs.declared.Failure.{Failure}
 use Rattle.machine.specs.declared.TableEntry.{TableEntry}
 use Rattle.machine.specs.declared.TableEntry.the-variants.{Word, Unread}
-use Rattle.machine.specs.Failures.{addressing, segmentTranslation, pageTranslation, translationSpecification, hostFault, walkException}
+use Rattle.machine.specs.Failures.{addressing, segmentTranslation, pageTranslation, translationSpecification, hostFault}
 use Rattle.machine.specs.Walk.{segmentIndex, segmentEntryAt, pastSegmentTable, segmentInvalid, segmentMalformed, pageEntryAt, pastPageTable}
-
--- a failure of the walk for an address, of the host's tables or of the guest's
-unfoldable pub failing : Bool → ℕ → ℕ → Failure
-failing true a code = hostFault a code
-failing false a code = walkException a code
 
 -- the entry at an address that a step led to
 unfoldable pub readThrough : (ℕ → TableEntry) → TableEntry → TableEntry

@@ -1,79 +1,105 @@
 -- `address::in_page` meets its contract.
 -- Assumes nothing.
-use native.Mathlib.Omega.{arith}
-use mathlib.Core.Path.{refl, subst}
 use borrow.Author.Needs.{needs}
-use Rattle.machine.proofs.Tests.{tests}
-use Rattle.machine.specs.Host.{backing, hostPage}
-use Rattle.storage.proofs.Packed.{backing-page, backing-unpacked}
-use Rattle.address.specs.Touching.{Small, Backed, settled, touched}
-use Rattle.address.proofs.Touches.{backed-backing}
+use native.Mathlib.Omega.{arith}
+use Rattle.storage.proofs.Found.{served-page, found-code, found-in-storage}
+use Rattle.address.proofs.Located.{failed-page, good-page, failed-place, sees-bound, behind-virtual, behind-outside, behind-found, behind-stopped}
+use Rattle.address.specs.Locating.{faultNumber}
+use Prim.Native.Nat.{_%_, _^_}
+use Rattle.address.specs.Touching.{settled, touched}
+use Rattle.address.proofs.Touches.{backing-keyless}
 use Rattle.address.proofs.in_page.Statement.{statement}
 use Rattle.address.proofs.in_page.Tie as tie
 
-enum-known-w : tie.Need-enum-known-w
-enum-known-w c = search needs
-
-mul-prefixed : tie.Need-mul-prefixed
-mul-prefixed c = let small = subst Small (c .before .w .given .1) (c .before .before .before .before .before .pre .2) in omega arith
-
-add-prefixed : tie.Need-add-prefixed
-add-prefixed c = let small = subst Small (c .before .w .given .1) (c .before .before .before .before .before .pre .2) in omega arith
-
-prefixed-requires : tie.Need-prefixed-requires
-prefixed-requires c κs = search needs
-
-behind-requires : tie.Need-behind-requires
-behind-requires c κs = search needs
-
-cast-backed : tie.Need-cast-backed
-cast-backed c = search needs
-
-settle-requires : tie.Need-settle-requires
-settle-requires c κs =
-    let start = c .before .before .before .before .before .before .before .before in
-    let found = backing-page (start .args .guest) _ _ _ _ (start .pre .0) (c .before .behind .ensures (start .args .guest) refl refl) (c .if1 .taken) in
-    (start .pre .0, subst (Backed (start .args .guest) (start .args .keys .now) (c .before .before .prefixed .result)) found (backed-backing _ _ _ _ _ (start .pre .1)))
-
 returns : tie.Need-returns
-unfolding touched backing hostPage
-returns c =
-    let back5 = c .before .before .before .before .before in
-    let start = back5 .before .before .before .before in
-    let found = backing-page (start .args .guest) _ _ _ _ (start .pre .0) (c .before .before .behind .ensures (start .args .guest) refl refl) (c .before .if1 .taken) in
-    rw (back5 .w .given .1, c .settle .ensures, ← c .before .before .before .prefixed .ensures, found)
+unfolding touched
+returns c = λ g x sees. rw (failed-page _ _ (c .if1 .taken), failed-place _ _ (c .if1 .taken))
 
-unpacked-failure-requires : tie.Need-unpacked-failure-requires
-unpacked-failure-requires c κs = search needs
+cast-virtual-of : tie.Need-cast-virtual-of
+cast-virtual-of c = search needs
 
-enum-known-w-2 : tie.Need-enum-known-w-2
-enum-known-w-2 c = search needs
+mul-virtual-of : tie.Need-mul-virtual-of
+mul-virtual-of c = search needs
+
+add-virtual-of : tie.Need-add-virtual-of
+add-virtual-of c = search needs
+
+virtual-of-requires : tie.Need-virtual-of-requires
+virtual-of-requires c κs = search needs
 
 returns-2 : tie.Need-returns-2
-unfolding touched settled backing hostPage
+unfolding touched settled
 returns-2 c =
-    let back5 = c .before .before .before .before .before in
-    let start = back5 .before .before .before .before in
-    let found = backing-unpacked (start .args .guest) _ _ _ _ (start .pre .0) (c .before .before .behind .ensures (start .args .guest) refl refl) in
-    rw (back5 .w .given .1, ← c .before .before .before .prefixed .ensures, found, ← c .unpacked-failure .ensures (start .args .guest) refl)
+    let virtual = c .before in
+    let start = virtual .before .before .before .before in
+    let v = virtual .virtual-of .result in
+    λ g x sees.
+    rw (good-page _ _ (virtual .before .if1 .left), backing-keyless g (start .args .designation) (start .args .storage .now) (start .args .keys .now), behind-outside g (start .args .designation) (start .args .storage .now) _ v (sees-bound _ g x (start .pre .0) sees) (virtual .virtual-of .ensures g x sees) (c .if2 .taken) (start .args .a), failed-place _ v (c .if2 .taken))
+
+cast-v : tie.Need-cast-v
+cast-v c = search needs
+
+segment-for-requires : tie.Need-segment-for-requires
+segment-for-requires c κs = search needs
+
+page-for-requires : tie.Need-page-for-requires
+page-for-requires c κs = search needs
+
+faulted-requires : tie.Need-faulted-requires
+faulted-requires c κs = let start = c .before .before .before .before .before .before .before .before .before in found-code (start .args .designation) (start .args .storage .now) _ _ (served-page _ _ _ _ _ _ (c .before .before .segment-for .ensures .0) (c .before .before .segment-for .ensures .1) (c .before .page-for .ensures)) (c .if3 .taken)
 
 returns-3 : tie.Need-returns-3
+unfolding touched settled
+returns-3 c =
+    let paged = c .before .before in
+    let virtual = paged .before .before .before .before in
+    let start = virtual .before .before .before .before in
+    let p = paged .page-for .result in
+    let v = virtual .virtual-of .result in
+    let found = served-page _ _ _ _ _ _ (paged .before .segment-for .ensures .0) (paged .before .segment-for .ensures .1) (paged .page-for .ensures) in
+    λ g x sees.
+    rw (
+      good-page _ _ (virtual .before .if1 .left),
+      backing-keyless g (start .args .designation) (start .args .storage .now) (start .args .keys .now),
+      behind-stopped g (start .args .designation) (start .args .storage .now) _ v (sees-bound _ g x (start .pre .0) sees) (virtual .virtual-of .ensures g x sees) (paged .before .before .before .if2 .left) p found (c .before .if3 .taken) (start .args .a),
+      c .faulted .ensures,
+      failed-place _ (faultNumber v (p % 2 ^ 32)) (omega arith),
+    )
+
+settle-requires : tie.Need-settle-requires
+settle-requires c κs = let start = c .before .before .before .before .before .before .before .before .before in omega (arith, found-in-storage (start .args .designation) (start .args .storage .now) _ _ (served-page _ _ _ _ _ _ (c .before .before .segment-for .ensures .0) (c .before .before .segment-for .ensures .1) (c .before .page-for .ensures)) (c .if3 .left))
+
+returns-4 : tie.Need-returns-4
 unfolding touched
-returns-3 c = search (tests, c .before .w2 .given .1)
+returns-4 c =
+    let paged = c .before .before in
+    let virtual = paged .before .before .before .before in
+    let start = virtual .before .before .before .before in
+    let p = paged .page-for .result in
+    let v = virtual .virtual-of .result in
+    let found = served-page _ _ _ _ _ _ (paged .before .segment-for .ensures .0) (paged .before .segment-for .ensures .1) (paged .page-for .ensures) in
+    λ g x sees.
+    rw (
+      good-page _ _ (virtual .before .if1 .left),
+      backing-keyless g (start .args .designation) (start .args .storage .now) (start .args .keys .now),
+      behind-found g (start .args .designation) (start .args .storage .now) _ v (sees-bound _ g x (start .pre .0) sees) (virtual .virtual-of .ensures g x sees) (paged .before .before .before .if2 .left) p found (c .before .if3 .left),
+    )
+    (c .settle .ensures g x _ (start .args .a) (sees .left) (behind-virtual g (start .args .designation) (start .args .storage .now) _ v (sees-bound _ g x (start .pre .0) sees) (virtual .virtual-of .ensures g x sees) (paged .before .before .before .if2 .left)))
 
 pub in-page-spec : {M : Type 1} → statement M
 in-page-spec =
     tie.close
     (tie.spec
-    enum-known-w
-    mul-prefixed
-    add-prefixed
-    prefixed-requires
-    behind-requires
-    cast-backed
-    settle-requires
     returns
-    unpacked-failure-requires
-    enum-known-w-2
+    cast-virtual-of
+    mul-virtual-of
+    add-virtual-of
+    virtual-of-requires
     returns-2
-    returns-3)
+    cast-v
+    segment-for-requires
+    page-for-requires
+    faulted-requires
+    returns-3
+    settle-requires
+    returns-4)

@@ -1,73 +1,91 @@
 -- `address::real_page` meets its contract.
 -- Assumes nothing.
 use borrow.Author.Needs.{needs}
-use Rattle.machine.specs.Addresses.{realPage, formatGood}
+use native.Mathlib.Omega.{arith}
 use Rattle.machine.proofs.Tests.{tests}
-use Rattle.address.proofs.Touches.{aligned-tableLeads, aligned-segmentLeads}
+use Rattle.address.proofs.Located.{failed-entry, good-entry, failed-page, plain-page}
+use mathlib.Core.Path.{subst, _∙_}
+use Rattle.machine.specs.Addresses.{realPage, formatGood}
+use Rattle.machine.specs.Walk.{walkPage}
+use Rattle.machine.specs.Failures.{walkException}
+use Rattle.storage.specs.Steps.{readThrough, segmentLeads}
 use Rattle.storage.proofs.Steps.{walk-in-steps}
-use Rattle.storage.specs.Steps.{failing}
+use Rattle.address.specs.Touching.{Aligned}
+use Rattle.address.proofs.Touches.{aligned-tableLeads}
+use Rattle.address.specs.Locating.{failureIn, pageIn}
+use borrow.Author.Tests.{eq-eqb}
 use Rattle.address.proofs.real_page.Statement.{statement}
 use Rattle.address.proofs.real_page.Tie as tie
 
+mul-without-page : tie.Need-mul-without-page
+mul-without-page c = search needs
+
+cast-without-page : tie.Need-cast-without-page
+cast-without-page c = search needs
+
+without-page-requires : tie.Need-without-page-requires
+without-page-requires c κs = search needs
+
 returns : tie.Need-returns
-unfolding realPage formatGood failing
-returns c = λ k. search tests
+unfolding realPage
+returns c = (c .without-page .ensures .1 _ _, λ g x sees k. rw (c .without-page .ensures .0, plain-page (c .before .before .before .before .args .a) (omega arith), ← sees .left) (search tests))
 
-element-copy-out-cr0 : tie.Need-element-copy-out-cr0
-element-copy-out-cr0 c = search needs
+excepted-requires : tie.Need-excepted-requires
+excepted-requires c κs = search needs
 
-exception-requires : tie.Need-exception-requires
-exception-requires c κs = search needs
+without-page-requires-2 : tie.Need-without-page-requires-2
+without-page-requires-2 c κs = search needs
 
 returns-2 : tie.Need-returns-2
-unfolding realPage formatGood failing
-returns-2 c = λ k. search tests
+unfolding realPage formatGood pageIn failureIn walkException
+returns-2 c = (c .without-page2 .ensures .1 _ _, λ g x sees k. rw (c .without-page2 .ensures .0, c .before .excepted .ensures, ← sees .left, ← sees .cr0) (search tests))
 
-element-copy-out-cr1 : tie.Need-element-copy-out-cr1
-element-copy-out-cr1 c = search needs
+by-table-requires : tie.Need-by-table-requires
+by-table-requires c κs = search needs
 
-table-leads-requires : tie.Need-table-leads-requires
-table-leads-requires c κs = search needs
-
-read-through-requires : tie.Need-read-through-requires
-unfolding realPage formatGood failing
-read-through-requires c κs = (c .before .before .before .before .before .before .before .pre, rw (c .table-leads .ensures) (aligned-tableLeads _ _ _))
-
-segment-leads-requires : tie.Need-segment-leads-requires
-segment-leads-requires c κs = search needs
-
-read-through-requires-2 : tie.Need-read-through-requires-2
-unfolding realPage formatGood failing
-read-through-requires-2 c κs = (c .before .before .before .before .before .before .before .before .before .pre, rw (c .segment-leads .ensures) (aligned-segmentLeads _ _ _))
-
-page-of-requires : tie.Need-page-of-requires
-page-of-requires c κs = search needs
+without-page-requires-3 : tie.Need-without-page-requires-3
+without-page-requires-3 c κs = search needs
 
 returns-3 : tie.Need-returns-3
-unfolding realPage formatGood failing
+unfolding realPage formatGood readThrough segmentLeads walkPage
 returns-3 c =
-    λ k.
-    rw (
-      c .page-of .ensures,
-      c .before .read-through2 .ensures k,
-      c .before .before .segment-leads .ensures,
-      c .before .before .before .read-through .ensures k,
-      c .before .before .before .before .table-leads .ensures,
+    let next = c .before .before .by-table in
+    let good = c .before .before .before in (
+      c .without-page3 .ensures .1 _ _,
+      λ g x sees k.
+          rw (c .without-page3 .ensures .0, failed-page _ (next .result) (c .before .if3 .taken), ← sees .left, eq-eqb _ _ (good .before .before .if1 .left), ← sees .cr0, eq-eqb _ _ (good .if2 .left), walk-in-steps, ← sees .cr1, next .ensures, failed-entry _ (next .result) (c .before .if3 .taken)),
     )
-    (search (tests, walk-in-steps))
+
+cast-from-segment-entry : tie.Need-cast-from-segment-entry
+cast-from-segment-entry c = search needs
+
+from-segment-entry-requires : tie.Need-from-segment-entry-requires
+from-segment-entry-requires c κs = (c .before .before .before .before .before .before .before .pre, subst Aligned (c .before .by-table .ensures ∙ good-entry _ _ (c .if3 .left)) (aligned-tableLeads _ _ _))
+
+returns-4 : tie.Need-returns-4
+unfolding realPage formatGood readThrough
+returns-4 c =
+    let next = c .before .before .by-table in
+    let good = c .before .before .before in (
+      c .from-segment-entry .ensures .0,
+      λ g x sees k.
+          rw (← sees .left, eq-eqb _ _ (good .before .before .if1 .left), ← sees .cr0, eq-eqb _ _ (good .if2 .left), walk-in-steps, ← sees .cr1, next .ensures, good-entry _ (next .result) (c .before .if3 .left)) (c .from-segment-entry .ensures .1 g x sees k),
+    )
 
 pub real-page-spec : {M : Type 1} → statement M
 real-page-spec =
     tie.close
     (tie.spec
+    mul-without-page
+    cast-without-page
+    without-page-requires
     returns
-    element-copy-out-cr0
-    exception-requires
+    excepted-requires
+    without-page-requires-2
     returns-2
-    element-copy-out-cr1
-    table-leads-requires
-    read-through-requires
-    segment-leads-requires
-    read-through-requires-2
-    page-of-requires
-    returns-3)
+    by-table-requires
+    without-page-requires-3
+    returns-3
+    cast-from-segment-entry
+    from-segment-entry-requires
+    returns-4)

@@ -1,10 +1,21 @@
 -- `address::settle` meets its contract.
 -- Assumes nothing.
-use mathlib.Core.Path.{sym, _∙_}
 use borrow.Author.Needs.{needs}
+use mathlib.Core.Path.{sym, _∙_}
 use Rattle.address.specs.Touching.{settled}
+use Rattle.machine.proofs.Tests.{tests}
+use native.Mathlib.Omega.{arith}
+use Rattle.machine.specs.Failures.{walkException}
+use Rattle.address.proofs.Located.{failed-place, failure-fault, found-place}
+use Rattle.address.specs.Locating.{faultNumber, failureIn, placeIn}
 use Rattle.address.proofs.settle.Statement.{statement}
 use Rattle.address.proofs.settle.Tie as tie
+
+cast-frame : tie.Need-cast-frame
+cast-frame c = search needs
+
+cast-guest-protects : tie.Need-cast-guest-protects
+cast-guest-protects c = search needs
 
 shared-slice-read-guest-protects : tie.Need-shared-slice-read-guest-protects
 shared-slice-read-guest-protects c = search needs
@@ -12,52 +23,53 @@ shared-slice-read-guest-protects c = search needs
 guest-protects-requires : tie.Need-guest-protects-requires
 guest-protects-requires c κs = search needs
 
-exception-requires : tie.Need-exception-requires
-exception-requires c κs = search needs
+excepted-requires : tie.Need-excepted-requires
+excepted-requires c κs = search needs
 
 returns : tie.Need-returns
-unfolding settled
-returns c = rw (sym (c .before .before .guest-protects .ensures) ∙ c .before .if1 .taken, c .exception .ensures)
+unfolding settled placeIn failureIn walkException
+returns c = λ g x absolute a left is. rw (sym (c .before .before .guest-protects .ensures x left) ∙ c .before .if1 .taken, c .excepted .ensures)
 
 both-requires : tie.Need-both-requires
 both-requires c κs = search needs
 
-cast-t16 : tie.Need-cast-t16
-cast-t16 c = search needs
-
-mul-t17 : tie.Need-mul-t17
-mul-t17 c = search needs
-
-add-t18 : tie.Need-add-t18
-add-t18 c = search needs
+faulted-requires : tie.Need-faulted-requires
+faulted-requires c κs = search needs
 
 returns-2 : tie.Need-returns-2
 unfolding settled
-returns-2 c = rw (sym (c .before .before .before .before .guest-protects .ensures) ∙ c .before .before .before .if1 .left, sym (c .before .before .both .ensures) ∙ c .before .if2 .taken)
+returns-2 c =
+    λ g x absolute a left is.
+    let v = c .before .before .before .before .before .before .before .args .v in
+    rw (sym (c .before .before .before .before .guest-protects .ensures x left) ∙ c .before .before .before .if1 .left, sym (c .before .before .both .ensures) ∙ c .before .if2 .taken, c .faulted .ensures, failed-place a (faultNumber v 4) (omega arith), failure-fault a v 4 (omega arith), is)
 
-mul-t20 : tie.Need-mul-t20
-mul-t20 c = search needs
+mul-result : tie.Need-mul-result
+mul-result c = search needs
 
-add-t22 : tie.Need-add-t22
-add-t22 c = search needs
+add-result : tie.Need-add-result
+add-result c = search needs
+
+cast-result : tie.Need-cast-result
+cast-result c = search needs
 
 returns-3 : tie.Need-returns-3
 unfolding settled
-returns-3 c = rw (sym (c .before .before .before .guest-protects .ensures) ∙ c .before .before .if1 .left, sym (c .before .both .ensures) ∙ c .if2 .left)
+returns-3 c = λ g x absolute a left is. rw (sym (c .before .before .before .guest-protects .ensures x left) ∙ c .before .before .if1 .left, sym (c .before .both .ensures) ∙ c .if2 .left) (found-place g absolute _ _ a is (omega arith))
 
 pub settle-spec : {M : Type 1} → statement M
 settle-spec =
     tie.close
     (tie.spec
+    cast-frame
+    cast-guest-protects
     shared-slice-read-guest-protects
     guest-protects-requires
-    exception-requires
+    excepted-requires
     returns
     both-requires
-    cast-t16
-    mul-t17
-    add-t18
+    faulted-requires
     returns-2
-    mul-t20
-    add-t22
+    mul-result
+    add-result
+    cast-result
     returns-3)

@@ -1,11 +1,11 @@
 -- `drevokas::translate_accepted` meets its contract.
 -- Assumes nothing.
-use mathlib.Core.Path.{ap, sym, _∙_}
 use borrow.Author.Needs.{needs}
+use mathlib.Core.Path.{ap, sym, _∙_}
+use Rattle.machine.specs.Record.{cpuOf}
 use Rattle.machine.specs.Operations.{translatedAs}
 use Rattle.drevokas.specs.Packing.{answered}
-use Rattle.drevokas.proofs.Accepting.{translated-length, translated-keys, entered, answered-is}
-use Rattle.drevokas.proofs.Parts.{entered-parts, touch-enough}
+use Rattle.drevokas.proofs.Accepting.{translated-length, translated-keys, entered, answered-is, wrapped-is}
 use Rattle.drevokas.proofs.translate_accepted.Statement.{statement}
 use Rattle.drevokas.proofs.translate_accepted.Tie as tie
 
@@ -21,17 +21,23 @@ psw-of-requires c κs = translated-length _ _ _ _ (c .before .before .before .be
 table-controls-requires : tie.Need-table-controls-requires
 table-controls-requires c κs = translated-length _ _ _ _ (c .before .before .before .before .before .before .before .pre)
 
+element-copy-out-cr0 : tie.Need-element-copy-out-cr0
+element-copy-out-cr0 c = search needs
+
+element-copy-out-cr1 : tie.Need-element-copy-out-cr1
+element-copy-out-cr1 c = search needs
+
+space-of-requires : tie.Need-space-of-requires
+space-of-requires c κs = let started = c .before .before .before .before in entered _ (sym (started .before .entry-good .ensures) ∙ started .if1 .taken)
+
 wrapped-requires : tie.Need-wrapped-requires
 wrapped-requires c κs = search needs
 
-addressed-requires : tie.Need-addressed-requires
-addressed-requires c κs = search needs
+locate-requires : tie.Need-locate-requires
+locate-requires c κs = (c .before .space-of .ensures .0, translated-keys _ _ _ _ (c .before .before .before .before .before .before .before .before .before .before .before .before .pre))
 
-touch-requires : tie.Need-touch-requires
-touch-requires c κs =
-    let back4 = c .before .before .before .before in
-    let start = back4 .before .before .before .before .before .before in
-    (entered-parts _ _ (c .addressed .ensures) (entered _ (sym (back4 .before .entry-good .ensures) ∙ back4 .if1 .taken)), translated-keys _ _ _ _ (start .pre))
+place-of-requires : tie.Need-place-of-requires
+place-of-requires c κs = search needs
 
 answer-requires : tie.Need-answer-requires
 answer-requires c κs = search needs
@@ -39,20 +45,22 @@ answer-requires c κs = search needs
 returns : tie.Need-returns
 unfolding translatedAs
 returns c =
-    let back3 = c .before .before .before in
-    let back6 = back3 .before .before .before in
-    let guest = back6 .before .before .guest-of in
+    let space = c .before .before .before .before in
+    let controls = space .before .before .before .table-controls in
+    let psw = space .before .before .before .before .psw-of in
+    let good = space .before .before .before .before .before in
+    let guest = good .before .before .guest-of in
+    let start = good .before .before .before .before .before .before in
     rw (
       c .answer .ensures,
-      c .before .touch .ensures,
-      ← (guest .ensures),
-      ← (back6 .before .entry-good .ensures),
-      back6 .if1 .taken,
+      c .before .place-of .ensures,
+      ← guest .ensures,
+      ← good .before .entry-good .ensures,
+      good .if1 .taken,
       answered-is,
+      ← wrapped-is (cpuOf (start .args .r .now)) (psw .result) (start .args .a) _ (psw .ensures) (c .before .before .before .wrapped .ensures),
     )
-    (ap answered
-    (sym (touch-enough (guest .result) (c .before .before .addressed .result) _ _ (back3 .before .before .psw-of .result) (back3 .before .table-controls .result) _ _ (back3 .wrapped .result)
-    (c .before .before .addressed .ensures) (back3 .before .before .psw-of .ensures) (back3 .before .table-controls .ensures) (back3 .wrapped .ensures))))
+    (ap answered (sym (c .before .before .locate .ensures _ _ (space .space-of .ensures .1 _ (ap (λ p. p .left) (psw .ensures)) (controls .ensures .0) (controls .ensures .1)))))
 
 returns-2 : tie.Need-returns-2
 unfolding translatedAs
@@ -66,9 +74,12 @@ translate-accepted-spec =
     entry-good-requires
     psw-of-requires
     table-controls-requires
+    element-copy-out-cr0
+    element-copy-out-cr1
+    space-of-requires
     wrapped-requires
-    addressed-requires
-    touch-requires
+    locate-requires
+    place-of-requires
     answer-requires
     returns
     returns-2)

@@ -53,8 +53,8 @@ name-through-requires-2 c κs =
 read-through-requires-2 : tie.Need-read-through-requires-2
 read-through-requires-2 c κs = (c .before .before .before .before .before .before .before .before .before .before .before .before .before .before .before .before .before .before .pre .1, rw (c .before .before .before .before .segment-leads .ensures) (aligned-segmentLeads _ _ _))
 
-page-of-requires : tie.Need-page-of-requires
-page-of-requires c κs = search needs
+page-leads-requires : tie.Need-page-leads-requires
+page-leads-requires c κs = search needs
 
 same-length : tie.Need-same-length
 same-length c = search needs
@@ -78,7 +78,7 @@ returns-3 c =
           (back7 .read-through .ensures)
           (back4 .before .before .segment-leads .ensures)
           (c .before .read-through2 .ensures)
-          (c .page-of .ensures)
+          (c .page-leads .ensures)
           _
           (second .0)
           (first .1)
@@ -99,6 +99,6 @@ name-tables-spec =
     segment-leads-requires
     name-through-requires-2
     read-through-requires-2
-    page-of-requires
+    page-leads-requires
     same-length
     returns-3)

@@ -25,6 +25,9 @@ returns : tie.Need-returns
 unfolding backing
 returns c = λ g own full. rw (own, full) (search tests)
 
+cast-t12 : tie.Need-cast-t12
+cast-t12 c = search needs
+
 returns-2 : tie.Need-returns-2
 unfolding backing
 returns-2 c = λ g own full. rw full (search tests)
@@ -39,4 +42,5 @@ backing-spec =
     cast-host-page
     host-page-requires
     returns
+    cast-t12
     returns-2)
