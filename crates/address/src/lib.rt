@@ -16,7 +16,7 @@ ghost use Rattle.machine.specs.Addresses.{prefixed, guestEntry, realPage, lowPr
 ghost use Rattle.storage.specs.Entered.{Entered};
 ghost use Rattle.storage.specs.Steps.{readThrough, tableLeads, segmentLeads, inside};
 ghost use Rattle.storage.specs.Found.{Serves};
-ghost use Rattle.address.specs.Touching.{seen, Aligned, Inside, entryBehind, settled, guestProtects, touched, touchOf};
+ghost use Rattle.address.specs.Touching.{seen, settled, guestProtects, touched, touchOf};
 ghost use Rattle.address.specs.Operands.{inOnePage, inTwoPages, operandOf};
 ghost use Rattle.address.specs.Locating.{Sees, Fits, exceptionNumber, faultNumber, failureIn, virtualIn, entryIn, pageIn, placeIn};
 use machine::Failure;
@@ -54,55 +54,6 @@ fn both(x: bool, y: bool) -> bool
         return y;
     }
     false
-}
-
-// Prefixing exchanges real block 0 and the prefix block.
-pub fn prefixed(guest: Guest, a: u32) -> u32
-    requires { ⌜ Entered guest ⌝ }
-    ensures { λ r. ⌜ r ≡ prefixed guest a ⌝ }
-{
-    if a / 4096 == 0 {
-        return guest.prefix * 4096 + a % 4096;
-    }
-    if a / 4096 == guest.prefix {
-        return a % 4096;
-    }
-    a
-}
-
-// The guest table entry at a guest absolute address, by the host page behind it.
-fn entry_in(storage: &[u8], a: u32, page: Walk) -> TableEntry
-    requires { ⌜ Inside (now storage) page × (a % 4 ≡ 0) ⌝ }
-    ensures { λ r. ⌜ r ≡ entryBehind (now (storage .entry)) a page ⌝ }
-{
-    match page {
-        Walk::Page {
-            frame,
-            protected: _,
-        } => TableEntry::Word(words::word_at(storage, frame as usize * 4096 + a as usize % 4096)),
-        Walk::Failed(f) => TableEntry::Unread(f),
-    }
-}
-
-// The guest table entry at a guest real address, whatever the keys are.
-fn guest_entry(storage: &[u8], designation: u32, guest: Guest, real: u32) -> TableEntry
-    requires { ⌜ Entered guest × (real % 4 ≡ 0) ⌝ }
-    ensures { λ r. ⌜ ((k : List ℕ) → r ≡ guestEntry guest (view guest (host designation (now (storage .entry)) k)) real) ⌝ }
-{
-    let at = prefixed(guest, real);
-    let page = storage::backing(storage, designation, guest.origin, guest.extent, at);
-    entry_in(storage, at, page)
-}
-
-// The guest table entry at the address that a step led to.
-pub fn read_through(storage: &[u8], designation: u32, guest: Guest, e: TableEntry) -> TableEntry
-    requires { ⌜ Entered guest × Aligned e ⌝ }
-    ensures { λ r. ⌜ ((k : List ℕ) → r ≡ readThrough (guestEntry guest (view guest (host designation (now (storage .entry)) k))) e) ⌝ }
-{
-    match e {
-        TableEntry::Word(at) => guest_entry(storage, designation, guest, at),
-        TableEntry::Unread(f) => TableEntry::Unread(f),
-    }
 }
 
 // What addressing looks at: the guest's origin, extent and prefix in bytes, the PSW's left half, and control registers 0 and 1.
@@ -166,7 +117,7 @@ fn virtual_of(space: Space, real: u32) -> u64
 }
 
 // Where the guest's segment entry of a logical address stands, by CR1.
-fn by_table(cr1: u32, a: u32) -> u64
+pub fn by_table(cr1: u32, a: u32) -> u64
     ensures { λ r. ⌜ tableLeads (walkException a) cr1 a ≡ entryIn a r ⌝ }
 {
     if cr1 % 128 < a / 1048576 / 16 {
@@ -176,7 +127,7 @@ fn by_table(cr1: u32, a: u32) -> u64
 }
 
 // Where the guest's page entry of a logical address stands, by its segment entry.
-fn by_segment(a: u32, word: u32) -> u64
+pub fn by_segment(a: u32, word: u32) -> u64
     ensures { λ r. ⌜ segmentLeads (walkException a) (pageIndex a) (TableEntry.Word word) ≡ entryIn a r ⌝ }
 {
     if word / 32 % 2 == 1 {
@@ -193,7 +144,7 @@ fn by_segment(a: u32, word: u32) -> u64
 }
 
 // The real page of a guest page entry.
-fn by_page(word: u32) -> u64
+pub fn by_page(word: u32) -> u64
     ensures { λ r. ⌜ ((a : ℕ) → walkPage (walkException a) (TableEntry.Word word) ≡ pageIn a r) ⌝ }
 {
     if word / 1024 % 2 == 1 {
@@ -224,12 +175,12 @@ struct Real {
     kept: Segment,
 }
 
-// A failure in place of the real page.
-fn without_page(failure: u64) -> Real
-    ensures { λ r. ⌜ (r .page ≡ failure) × ((d : ℕ) (s : List ℕ) → Serves d s (r .kept .index) (r .kept .found)) ⌝ }
+// A real page, or a failure, with no host segment entry.
+fn without_segment(page: u64) -> Real
+    ensures { λ r. ⌜ (r .page ≡ page) × ((d : ℕ) (s : List ℕ) → Serves d s (r .kept .index) (r .kept .found)) ⌝ }
 {
     Real {
-        page: failure,
+        page,
         kept: storage::no_segment(),
     }
 }
@@ -243,13 +194,13 @@ fn from_page_entry(storage: &[u8], designation: u32, space: Space, real: u32, ke
 {
     let at = virtual_of(space, real);
     if at >= STOPPED {
-        return without_page(at);
+        return without_segment(at);
     }
     let v = at as u32;
     let segment = storage::segment_for(storage, designation, kept, v);
     let page = storage::page_for(storage, segment.found, v);
     if page >= STOPPED {
-        return without_page(faulted(page % STOPPED, v));
+        return without_segment(faulted(page % STOPPED, v));
     }
     Real {
         page: by_page(table_word(storage, page, v)),
@@ -267,17 +218,17 @@ fn from_segment_entry(storage: &[u8], designation: u32, space: Space, a: u32, re
 {
     let at = virtual_of(space, real);
     if at >= STOPPED {
-        return without_page(at);
+        return without_segment(at);
     }
     let v = at as u32;
     let segment = storage::segment_for(storage, designation, storage::no_segment(), v);
     let page = storage::page_for(storage, segment.found, v);
     if page >= STOPPED {
-        return without_page(faulted(page % STOPPED, v));
+        return without_segment(faulted(page % STOPPED, v));
     }
     let next = by_segment(a, table_word(storage, page, v));
     if next >= STOPPED {
-        return without_page(next);
+        return without_segment(next);
     }
     from_page_entry(storage, designation, space, next as u32, segment)
 }
@@ -290,14 +241,14 @@ fn real_page(storage: &[u8], designation: u32, space: Space, a: u32) -> Real
         → realPage g (view g (host designation (now (storage .entry)) k)) c a ≡ pageIn a (r .page)) ⌝ }
 {
     if space.left / 67108864 % 2 != 1 {
-        return without_page((a / 4096 * 4096) as u64);
+        return without_segment((a / 4096 * 4096) as u64);
     }
     if space.cr0 / 524288 % 32 != 22 {
-        return without_page(excepted(SPECIFICATION));
+        return without_segment(excepted(SPECIFICATION));
     }
     let real = by_table(space.cr1, a);
     if real >= STOPPED {
-        return without_page(real);
+        return without_segment(real);
     }
     from_segment_entry(storage, designation, space, a, real as u32)
 }
@@ -410,7 +361,7 @@ fn exception_address(a: u32, code: u32) -> u32
 }
 
 // The failure that a number says of a logical address.
-fn failure_of(a: u32, w: u64) -> Failure
+pub fn failure_of(a: u32, w: u64) -> Failure
     ensures { λ r. ⌜ r ≡ failureIn a w ⌝ }
 {
     let code = (w / 8589934592) as u32;
@@ -436,55 +387,6 @@ pub fn place_of(a: u32, w: u64) -> Place
         return Place::At(w as u32);
     }
     Place::Denied(failure_of(a, w))
-}
-
-// The address of a guest table entry that a number says, for a logical address.
-fn entry_of(a: u32, w: u64) -> TableEntry
-    ensures { λ r. ⌜ r ≡ entryIn a w ⌝ }
-{
-    if w < STOPPED {
-        return TableEntry::Word(w as u32);
-    }
-    TableEntry::Unread(failure_of(a, w))
-}
-
-// The real page that a number says of a logical address.
-fn page_of(a: u32, w: u64) -> Walk
-    ensures { λ r. ⌜ r ≡ pageIn a w ⌝ }
-{
-    if w < STOPPED {
-        return Walk::Page {
-            frame: (w / 4096) as u32,
-            protected: w / 512 % 2 == 1,
-        };
-    }
-    Walk::Failed(failure_of(a, w))
-}
-
-// The steps of the guest's walk, each by itself: where the segment entry stands, where the page entry stands, the real page.
-
-pub fn table_leads(cr1: u32, a: u32) -> TableEntry
-    ensures { λ r. ⌜ r ≡ tableLeads (walkException a) cr1 a ⌝ }
-{
-    entry_of(a, by_table(cr1, a))
-}
-
-pub fn segment_leads(a: u32, e: TableEntry) -> TableEntry
-    ensures { λ r. ⌜ r ≡ segmentLeads (walkException a) (pageIndex a) e ⌝ }
-{
-    match e {
-        TableEntry::Word(w) => entry_of(a, by_segment(a, w)),
-        TableEntry::Unread(f) => TableEntry::Unread(f),
-    }
-}
-
-pub fn page_leads(a: u32, e: TableEntry) -> Walk
-    ensures { λ r. ⌜ r ≡ walkPage (walkException a) e ⌝ }
-{
-    match e {
-        TableEntry::Word(w) => page_of(a, by_page(w)),
-        TableEntry::Unread(f) => Walk::Failed(f),
-    }
 }
 
 // Where the byte at a wrapped logical address stands, for a guest, a PSW and control registers.

@@ -25,7 +25,7 @@ use Rattle.machine.specs.Host.{host, hostVirtual, inFrame, hostEntry, inStorage
 use Rattle.machine.specs.Addresses.{prefixed, guestEntry, formatGood, lowProtected, realPage}
 use Rattle.machine.proofs.Laws.{word-of-bytes}
 use Rattle.machine.proofs.Backing.{same-test}
-use Rattle.machine.proofs.Pages.{prefixed-keeps-offset}
+use Rattle.machine.proofs.Pages.{prefixed-keeps-offset, backing-in-storage}
 use Rattle.storage.specs.Steps.{readThrough, tableLeads, segmentLeads}
 use Rattle.storage.proofs.Steps.{walk-in-steps}
 use Rattle.address.specs.Touching.{entryBehind, touched, touchOf}
@@ -153,6 +153,17 @@ module _ (g : Guest) (d : ℕ) (s : List ℕ) (real : ℕ) (aligned : real % 4 �
   pub entry-above : (guard : List ℕ) → extentBytes g ≤ at → RealEntryAlike guard g d s real
   unfolding backing
   entry-above guard above = entry-alike guard (λ below. absurd (omega arith)) (rw (le-ltb at (extentBytes g) above) tt)
+
+  -- the entry by the host page behind its address
+  pub entry-is : (w : Walk) → backing g (host d s []) at ≡ w → (k : List ℕ) → entryBehind s at w ≡ guestEntry g (view g (host d s k)) real
+  entry-is w behind k = rw (guest-entry-behind g d s k real aligned, ← is, behind)
+
+  pub entry-past : extentBytes g ≤ at → (k : List ℕ) → Unread (exceptionOf addressing) ≡ guestEntry g (view g (host d s k)) real
+  unfolding backing entryBehind
+  entry-past above = entry-is (Failed (exceptionOf addressing)) (rw (le-ltb at (extentBytes g) above))
+
+  pub entry-fits : {frame : ℕ} {protected : Bool} → backing g (host d s []) at ≡ Page frame protected → inFrame frame at + 4 ≤ length s
+  entry-fits behind = let offset = prefixed-keeps-offset g real in let whole = backing-in-storage g (host d s []) at behind in omega arith
 
   -- by the host page behind the address
   module _ (guard : List ℕ) (below : HostAlike guard d s (hostVirtual g at)) where

@@ -4,11 +4,14 @@ ghost use mathlib.Core.Bool.{Bool};
 ghost use mathlib.Core.List.{List};
 ghost use Prim.Native.Nat.{ℕ, _*_, _%_, _<_};
 ghost use lib.ListN.{length, set};
+ghost use Rattle.machine.specs.Failures.{walkException};
+ghost use Rattle.machine.specs.Walk.{pageIndex, walkPage};
 ghost use Rattle.machine.specs.Host.{host, hostPage, view};
-ghost use Rattle.machine.specs.Addresses.{guestEntry, realPage};
+ghost use Rattle.machine.specs.Addresses.{prefixed, guestEntry, realPage};
 ghost use Rattle.storage.specs.Entered.{Entered};
-ghost use Rattle.storage.specs.Steps.{readThrough};
+ghost use Rattle.storage.specs.Steps.{readThrough, tableLeads, segmentLeads};
 ghost use Rattle.address.specs.Touching.{seen, Aligned, touchOf};
+ghost use Rattle.address.specs.Locating.{entryIn, pageIn};
 ghost use Rattle.guard.specs.Guarding.{Wider, Alike};
 use machine::Failure;
 use machine::Guest;
@@ -17,7 +20,75 @@ use machine::Registers;
 use machine::TableEntry;
 use machine::Walk;
 
+const ADDRESSING: u32 = 5;
+
 const TRANSLATION_SPECIFICATION: u32 = 0x12;
+
+// Numbers from here on say a failure.
+const STOPPED: u64 = 4294967296;
+
+// Prefixing exchanges real block 0 and the prefix block.
+fn prefixed(guest: Guest, a: u32) -> u32
+    requires { ⌜ Entered guest ⌝ }
+    ensures { λ r. ⌜ r ≡ prefixed guest a ⌝ }
+{
+    if a / 4096 == 0 {
+        return guest.prefix * 4096 + a % 4096;
+    }
+    if a / 4096 == guest.prefix {
+        return a % 4096;
+    }
+    a
+}
+
+// The address of a guest table entry that a number says, for a logical address.
+fn entry_of(a: u32, w: u64) -> TableEntry
+    ensures { λ r. ⌜ r ≡ entryIn a w ⌝ }
+{
+    if w < STOPPED {
+        return TableEntry::Word(w as u32);
+    }
+    TableEntry::Unread(address::failure_of(a, w))
+}
+
+// The real page that a number says of a logical address.
+fn page_of(a: u32, w: u64) -> Walk
+    ensures { λ r. ⌜ r ≡ pageIn a w ⌝ }
+{
+    if w < STOPPED {
+        return Walk::Page {
+            frame: (w / 4096) as u32,
+            protected: w / 512 % 2 == 1,
+        };
+    }
+    Walk::Failed(address::failure_of(a, w))
+}
+
+// The steps of the guest's walk, each by itself: where the segment entry stands, where the page entry stands, the real page.
+
+fn table_leads(cr1: u32, a: u32) -> TableEntry
+    ensures { λ r. ⌜ r ≡ tableLeads (walkException a) cr1 a ⌝ }
+{
+    entry_of(a, address::by_table(cr1, a))
+}
+
+fn segment_leads(a: u32, e: TableEntry) -> TableEntry
+    ensures { λ r. ⌜ r ≡ segmentLeads (walkException a) (pageIndex a) e ⌝ }
+{
+    match e {
+        TableEntry::Word(w) => entry_of(a, address::by_segment(a, w)),
+        TableEntry::Unread(f) => TableEntry::Unread(f),
+    }
+}
+
+fn page_leads(a: u32, e: TableEntry) -> Walk
+    ensures { λ r. ⌜ r ≡ walkPage (walkException a) e ⌝ }
+{
+    match e {
+        TableEntry::Word(w) => page_of(a, address::by_page(w)),
+        TableEntry::Unread(f) => Walk::Failed(f),
+    }
+}
 
 // Names a frame.
 fn name_frame(guard: &mut [u8], frame: u32)
@@ -45,16 +116,28 @@ fn name_host(storage: &[u8], guard: &mut [u8], designation: u32, a: u32)
     }
 }
 
-// Names the frames of the guest table entry at a guest real address: the host's entries for it, and the frame in which it stands.
-fn name_entry(storage: &[u8], guard: &mut [u8], designation: u32, guest: Guest, real: u32)
+// Names the frames of the guest table entry at a guest real address, the host's entries for it and the frame in which it stands, and
+// gives that entry, whatever the keys are.
+fn name_entry(
+    storage: &[u8],
+    guard: &mut [u8],
+    designation: u32,
+    guest: Guest,
+    real: u32,
+) -> TableEntry
     requires { ⌜ (length (now guard) ≡ 64) × Entered guest × (real % 4 ≡ 0) ⌝ }
     ensures { λ _. ⌜ Wider (now (guard .entry)) (now (guard .exit)) ⌝ }
     ensures { λ _. ⌜ ((t k : List ℕ) → Alike (now (guard .exit)) (now (storage .entry)) t
         → guestEntry guest (view guest (host designation t k)) real ≡ guestEntry guest (view guest (host designation (now (storage .entry)) k)) real) ⌝ }
+    ensures { λ r. ⌜ ((k : List ℕ) → r ≡ guestEntry guest (view guest (host designation (now (storage .entry)) k)) real) ⌝ }
 {
-    let at = address::prefixed(guest, real);
+    let at = prefixed(guest, real);
     if at >= guest.extent as u32 * 65536 {
-        return;
+        return TableEntry::Unread(Failure {
+            host: false,
+            code: ADDRESSING,
+            address: 0,
+        });
     }
     name_host(
         storage,
@@ -66,21 +149,31 @@ fn name_entry(storage: &[u8], guard: &mut [u8], designation: u32, guest: Guest, 
         Walk::Page {
             frame,
             protected: _,
-        } => name_frame(guard, frame),
-        Walk::Failed(_) => {}
+        } => {
+            name_frame(guard, frame);
+            TableEntry::Word(words::word_at(storage, frame as usize * 4096 + at as usize % 4096))
+        }
+        Walk::Failed(f) => TableEntry::Unread(f),
     }
 }
 
-// Names the frames of the guest table entry at the address that a step led to.
-fn name_through(storage: &[u8], guard: &mut [u8], designation: u32, guest: Guest, e: TableEntry)
+// The same for the entry at the address that a step led to.
+fn name_through(
+    storage: &[u8],
+    guard: &mut [u8],
+    designation: u32,
+    guest: Guest,
+    e: TableEntry,
+) -> TableEntry
     requires { ⌜ (length (now guard) ≡ 64) × Entered guest × Aligned e ⌝ }
     ensures { λ _. ⌜ Wider (now (guard .entry)) (now (guard .exit)) ⌝ }
     ensures { λ _. ⌜ ((t k : List ℕ) → Alike (now (guard .exit)) (now (storage .entry)) t
         → readThrough (guestEntry guest (view guest (host designation t k))) e ≡ readThrough (guestEntry guest (view guest (host designation (now (storage .entry)) k))) e) ⌝ }
+    ensures { λ r. ⌜ ((k : List ℕ) → r ≡ readThrough (guestEntry guest (view guest (host designation (now (storage .entry)) k))) e) ⌝ }
 {
     match e {
         TableEntry::Word(at) => name_entry(storage, guard, designation, guest, at),
-        TableEntry::Unread(_) => {}
+        TableEntry::Unread(f) => TableEntry::Unread(f),
     }
 }
 
@@ -115,12 +208,15 @@ fn name_tables(
         });
     }
     let cr1 = control.words[1];
-    let leads = address::table_leads(cr1, a);
-    name_through(storage, guard, designation, guest, leads);
-    let segment = address::read_through(storage, designation, guest, leads);
-    let page = address::segment_leads(a, segment);
-    name_through(storage, guard, designation, guest, page);
-    address::page_leads(a, address::read_through(storage, designation, guest, page))
+    let segment = name_through(storage, guard, designation, guest, table_leads(cr1, a));
+    let page = name_through(
+        storage,
+        guard,
+        designation,
+        guest,
+        segment_leads(a, segment),
+    );
+    page_leads(a, page)
 }
 
 // Names the frames that decide an access to a byte at a wrapped logical address.
@@ -143,7 +239,7 @@ pub fn name_access(
             frame,
             protected: _,
         } => {
-            let at = address::prefixed(guest, frame * 4096 + a % 4096);
+            let at = prefixed(guest, frame * 4096 + a % 4096);
             if at < guest.extent as u32 * 65536 {
                 name_host(
                     storage,

@@ -13,17 +13,17 @@ use Rattle.address.proofs.from_page_entry.Tie as tie
 virtual-of-requires : tie.Need-virtual-of-requires
 virtual-of-requires c κs = search needs
 
-without-page-requires : tie.Need-without-page-requires
-without-page-requires c κs = search needs
+without-segment-requires : tie.Need-without-segment-requires
+without-segment-requires c κs = search needs
 
 returns : tie.Need-returns
 unfolding walkPage
 returns c =
     let start = c .before .before .before .before in (
-      c .without-page .ensures .1 _ _,
+      c .without-segment .ensures .1 _ _,
       λ g x sees k a.
           rw (
-            c .without-page .ensures .0,
+            c .without-segment .ensures .0,
             failed-page a _ (c .before .if1 .taken),
             entry-outside g (start .args .designation) (start .args .storage .now) k _ _ (start .pre .1) (sees-bound _ g x (start .pre .0) sees) (c .before .before .virtual-of .ensures g x sees) (c .before .if1 .taken) a,
           ),
@@ -41,8 +41,8 @@ page-for-requires c κs = search needs
 faulted-requires : tie.Need-faulted-requires
 faulted-requires c κs = found-code (c .before .before .before .before .before .before .args .designation) (c .before .before .before .before .before .before .args .storage .now) _ _ (served-page _ _ _ _ _ _ (c .before .before .segment-for .ensures .0) (c .before .before .segment-for .ensures .1) (c .before .page-for .ensures)) (c .if2 .taken)
 
-without-page-requires-2 : tie.Need-without-page-requires-2
-without-page-requires-2 c κs = search needs
+without-segment-requires-2 : tie.Need-without-segment-requires-2
+without-segment-requires-2 c κs = search needs
 
 returns-2 : tie.Need-returns-2
 unfolding walkPage
@@ -52,10 +52,10 @@ returns-2 c =
     let start = virtual .before .before in
     let p = paged .page-for .result in
     let v = virtual .virtual-of .result in (
-      c .without-page2 .ensures .1 _ _,
+      c .without-segment2 .ensures .1 _ _,
       λ g x sees k a.
           rw (
-            c .without-page2 .ensures .0,
+            c .without-segment2 .ensures .0,
             c .before .faulted .ensures,
             failed-page a (faultNumber v (p % 2 ^ 32)) (omega arith),
             entry-stopped g (start .args .designation) (start .args .storage .now) k _ v (start .pre .1) (sees-bound _ g x (start .pre .0) sees) (virtual .virtual-of .ensures g x sees) (paged .before .before .if1 .left) p
@@ -87,13 +87,13 @@ from-page-entry-spec =
     tie.close
     (tie.spec
     virtual-of-requires
-    without-page-requires
+    without-segment-requires
     returns
     cast-v
     segment-for-requires
     page-for-requires
     faulted-requires
-    without-page-requires-2
+    without-segment-requires-2
     returns-2
     table-word-requires
     by-page-requires

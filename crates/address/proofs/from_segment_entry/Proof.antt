@@ -17,8 +17,8 @@ use Rattle.address.proofs.from_segment_entry.Tie as tie
 virtual-of-requires : tie.Need-virtual-of-requires
 virtual-of-requires c κs = search needs
 
-without-page-requires : tie.Need-without-page-requires
-without-page-requires c κs = search needs
+without-segment-requires : tie.Need-without-segment-requires
+without-segment-requires c κs = search needs
 
 returns : tie.Need-returns
 unfolding walkPage readThrough segmentLeads
@@ -26,10 +26,10 @@ returns c =
     let virtual = c .before .before in
     let start = virtual .before .before in
     let v = virtual .virtual-of .result in (
-      c .without-page .ensures .1 _ _,
+      c .without-segment .ensures .1 _ _,
       λ g x sees k.
           rw (
-            c .without-page .ensures .0,
+            c .without-segment .ensures .0,
             failed-page _ v (c .before .if1 .taken),
             entry-outside g (start .args .designation) (start .args .storage .now) k _ v (start .pre .1) (sees-bound _ g x (start .pre .0) sees) (virtual .virtual-of .ensures g x sees) (c .before .if1 .taken) (start .args .a),
           ),
@@ -50,8 +50,8 @@ page-for-requires c κs = search needs
 faulted-requires : tie.Need-faulted-requires
 faulted-requires c κs = let start = c .before .before .before .before .before .before .before in found-code (start .args .designation) (start .args .storage .now) _ _ (served-page _ _ _ _ _ _ (c .before .before .segment-for .ensures .0) (c .before .before .segment-for .ensures .1) (c .before .page-for .ensures)) (c .if2 .taken)
 
-without-page-requires-2 : tie.Need-without-page-requires-2
-without-page-requires-2 c κs = search needs
+without-segment-requires-2 : tie.Need-without-segment-requires-2
+without-segment-requires-2 c κs = search needs
 
 returns-2 : tie.Need-returns-2
 unfolding walkPage readThrough segmentLeads
@@ -62,10 +62,10 @@ returns-2 c =
     let p = paged .page-for .result in
     let v = virtual .virtual-of .result in
     let found = served-page _ _ _ _ _ _ (paged .before .segment-for .ensures .0) (paged .before .segment-for .ensures .1) (paged .page-for .ensures) in (
-      c .without-page2 .ensures .1 _ _,
+      c .without-segment2 .ensures .1 _ _,
       λ g x sees k.
           rw (
-            c .without-page2 .ensures .0,
+            c .without-segment2 .ensures .0,
             c .before .faulted .ensures,
             failed-page _ (faultNumber v (p % 2 ^ 32)) (omega arith),
             entry-stopped g (start .args .designation) (start .args .storage .now) k _ v (start .pre .1) (sees-bound _ g x (start .pre .0) sees) (virtual .virtual-of .ensures g x sees) (paged .before .before .before .if1 .left) p found (c .before .before .if2 .taken) (start .args .a),
@@ -78,8 +78,8 @@ table-word-requires c κs = search needs
 by-segment-requires : tie.Need-by-segment-requires
 by-segment-requires c κs = search needs
 
-without-page-requires-3 : tie.Need-without-page-requires-3
-without-page-requires-3 c κs = search needs
+without-segment-requires-3 : tie.Need-without-segment-requires-3
+without-segment-requires-3 c κs = search needs
 
 returns-3 : tie.Need-returns-3
 unfolding walkPage readThrough
@@ -91,10 +91,10 @@ returns-3 c =
     let v = virtual .virtual-of .result in
     let found = served-page _ _ _ _ _ _ (paged .before .segment-for .ensures .0) (paged .before .segment-for .ensures .1) (paged .page-for .ensures) in
     let next = c .before .before .by-segment in (
-      c .without-page3 .ensures .1 _ _,
+      c .without-segment3 .ensures .1 _ _,
       λ g x sees k.
           rw (
-            c .without-page3 .ensures .0,
+            c .without-segment3 .ensures .0,
             failed-page _ (next .result) (c .before .if3 .taken),
             entry-found g (start .args .designation) (start .args .storage .now) k _ v (start .pre .1) (sees-bound _ g x (start .pre .0) sees) (virtual .virtual-of .ensures g x sees) (paged .before .before .before .if1 .left) p found (c .before .before .before .before .if2 .left) _ (c .before .before .before .table-word .ensures),
             next .ensures,
@@ -136,18 +136,18 @@ from-segment-entry-spec =
     tie.close
     (tie.spec
     virtual-of-requires
-    without-page-requires
+    without-segment-requires
     returns
     cast-v
     no-segment-requires
     segment-for-requires
     page-for-requires
     faulted-requires
-    without-page-requires-2
+    without-segment-requires-2
     returns-2
     table-word-requires
     by-segment-requires
-    without-page-requires-3
+    without-segment-requires-3
     returns-3
     cast-from-page-entry
     from-page-entry-requires

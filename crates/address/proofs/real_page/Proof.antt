@@ -17,43 +17,43 @@ use borrow.Author.Tests.{eq-eqb}
 use Rattle.address.proofs.real_page.Statement.{statement}
 use Rattle.address.proofs.real_page.Tie as tie
 
-mul-without-page : tie.Need-mul-without-page
-mul-without-page c = search needs
+mul-without-segment : tie.Need-mul-without-segment
+mul-without-segment c = search needs
 
-cast-without-page : tie.Need-cast-without-page
-cast-without-page c = search needs
+cast-without-segment : tie.Need-cast-without-segment
+cast-without-segment c = search needs
 
-without-page-requires : tie.Need-without-page-requires
-without-page-requires c κs = search needs
+without-segment-requires : tie.Need-without-segment-requires
+without-segment-requires c κs = search needs
 
 returns : tie.Need-returns
 unfolding realPage
-returns c = (c .without-page .ensures .1 _ _, λ g x sees k. rw (c .without-page .ensures .0, plain-page (c .before .before .before .before .args .a) (omega arith), ← sees .left) (search tests))
+returns c = (c .without-segment .ensures .1 _ _, λ g x sees k. rw (c .without-segment .ensures .0, plain-page (c .before .before .before .before .args .a) (omega arith), ← sees .left) (search tests))
 
 excepted-requires : tie.Need-excepted-requires
 excepted-requires c κs = search needs
 
-without-page-requires-2 : tie.Need-without-page-requires-2
-without-page-requires-2 c κs = search needs
+without-segment-requires-2 : tie.Need-without-segment-requires-2
+without-segment-requires-2 c κs = search needs
 
 returns-2 : tie.Need-returns-2
 unfolding realPage formatGood pageIn failureIn walkException
-returns-2 c = (c .without-page2 .ensures .1 _ _, λ g x sees k. rw (c .without-page2 .ensures .0, c .before .excepted .ensures, ← sees .left, ← sees .cr0) (search tests))
+returns-2 c = (c .without-segment2 .ensures .1 _ _, λ g x sees k. rw (c .without-segment2 .ensures .0, c .before .excepted .ensures, ← sees .left, ← sees .cr0) (search tests))
 
 by-table-requires : tie.Need-by-table-requires
 by-table-requires c κs = search needs
 
-without-page-requires-3 : tie.Need-without-page-requires-3
-without-page-requires-3 c κs = search needs
+without-segment-requires-3 : tie.Need-without-segment-requires-3
+without-segment-requires-3 c κs = search needs
 
 returns-3 : tie.Need-returns-3
 unfolding realPage formatGood readThrough segmentLeads walkPage
 returns-3 c =
     let next = c .before .before .by-table in
     let good = c .before .before .before in (
-      c .without-page3 .ensures .1 _ _,
+      c .without-segment3 .ensures .1 _ _,
       λ g x sees k.
-          rw (c .without-page3 .ensures .0, failed-page _ (next .result) (c .before .if3 .taken), ← sees .left, eq-eqb _ _ (good .before .before .if1 .left), ← sees .cr0, eq-eqb _ _ (good .if2 .left), walk-in-steps, ← sees .cr1, next .ensures, failed-entry _ (next .result) (c .before .if3 .taken)),
+          rw (c .without-segment3 .ensures .0, failed-page _ (next .result) (c .before .if3 .taken), ← sees .left, eq-eqb _ _ (good .before .before .if1 .left), ← sees .cr0, eq-eqb _ _ (good .if2 .left), walk-in-steps, ← sees .cr1, next .ensures, failed-entry _ (next .result) (c .before .if3 .taken)),
     )
 
 cast-from-segment-entry : tie.Need-cast-from-segment-entry
@@ -76,15 +76,15 @@ pub real-page-spec : {M : Type 1} → statement M
 real-page-spec =
     tie.close
     (tie.spec
-    mul-without-page
-    cast-without-page
-    without-page-requires
+    mul-without-segment
+    cast-without-segment
+    without-segment-requires
     returns
     excepted-requires
-    without-page-requires-2
+    without-segment-requires-2
     returns-2
     by-table-requires
-    without-page-requires-3
+    without-segment-requires-3
     returns-3
     cast-from-segment-entry
     from-segment-entry-requires

@@ -1,8 +1,10 @@
 -- `guard::name_entry` meets its contract.
 -- Assumes nothing.
 use borrow.Author.Needs.{needs}
-use mathlib.Core.Path.{refl, sym, _∙_}
-use Rattle.guard.proofs.Guarded.{entry-above, entry-failed, entry-found}
+use mathlib.Core.Path.{refl, sym, ap, _∙_}
+use Rattle.machine.specs.declared.TableEntry.the-variants.{Word}
+use Rattle.address.specs.Touching.{entryBehind}
+use Rattle.guard.proofs.Guarded.{entry-above, entry-failed, entry-found, entry-is, entry-past, entry-fits}
 use Rattle.guard.proofs.name_entry.Statement.{statement}
 use Rattle.guard.proofs.name_entry.Tie as tie
 
@@ -17,9 +19,13 @@ mul-if1 c = search needs
 
 returns : tie.Need-returns
 returns c =
-    let start = c .before .before .before .before .before in (
+    let start = c .before .before .before .before .before in
+    let at = c .before .before .prefixed .ensures in (
       λ frame named. named,
-      entry-above (start .args .guest) (start .args .designation) (start .args .storage .now) (start .args .real) (start .pre .2) _ (c .before .before .prefixed .ensures) _ (c .if1 .taken),
+      (
+        entry-above (start .args .guest) (start .args .designation) (start .args .storage .now) (start .args .real) (start .pre .2) _ at _ (c .if1 .taken),
+        entry-past (start .args .guest) (start .args .designation) (start .args .storage .now) (start .args .real) (start .pre .2) _ at (c .if1 .taken),
+      ),
     )
 
 cast-name-host : tie.Need-cast-name-host
@@ -43,38 +49,61 @@ enum-known-frame c = search needs
 name-frame-requires : tie.Need-name-frame-requires
 name-frame-requires c κs = search needs
 
-enum-told : tie.Need-enum-told
-enum-told c = search needs
+cast-word-at : tie.Need-cast-word-at
+cast-word-at c = search needs
+
+mul-word-at : tie.Need-mul-word-at
+mul-word-at c = search needs
+
+cast-word-at-2 : tie.Need-cast-word-at-2
+cast-word-at-2 c = search needs
+
+add-word-at : tie.Need-add-word-at
+add-word-at c = search needs
+
+word-at-requires : tie.Need-word-at-requires
+word-at-requires c κs =
+    let met = c .before .before .before .before .before in
+    let page = met .before .before .backing in
+    let host = met .before .before .before .before .before in
+    let start = host .before .before .before .before .before .before .before .before in
+    let at = host .before .before .before .before .before .prefixed .ensures in
+    let behind = sym (page .ensures (start .args .guest) refl refl) ∙ met .frame .given .1 in
+    entry-fits (start .args .guest) (start .args .designation) (start .args .storage .now) (start .args .real) (start .pre .2) _ at behind
+
+enum-known-f : tie.Need-enum-known-f
+enum-known-f c = search needs
 
 same-length : tie.Need-same-length
 same-length c = search needs
 
 returns-2 : tie.Need-returns-2
+unfolding entryBehind
 returns-2 c =
-    let met = c .before .before .before .before .before in
+    let met = c .before .before .before .before .before .before in
     let page = met .before .before .backing in
     let host = met .before .before .before .before .before in
     let start = host .before .before .before .before .before .before .before .before in
-    entry-found (start .args .guest) (start .args .designation) (start .args .storage .now) (start .args .real) (start .pre .2) _ (host .before .before .before .before .before .prefixed .ensures) _ (host .name-host .ensures .1) _ _
-    (sym (page .ensures (start .args .guest) refl refl) ∙ met .frame .given .1)
-    (start .args .guard .now)
-    _
-    (host .name-host .ensures .0)
-    (met .before .before .before .before .guard .given ∙ start .pre .0)
-    (c .before .before .name-frame .ensures)
+    let at = host .before .before .before .before .before .prefixed .ensures in
+    let behind = sym (page .ensures (start .args .guest) refl refl) ∙ met .frame .given .1 in
+    let named =
+    entry-found (start .args .guest) (start .args .designation) (start .args .storage .now) (start .args .real) (start .pre .2) _ at _ (host .name-host .ensures .1) _ _ behind (start .args .guard .now) _ (host .name-host .ensures .0) (met .before .before .before .before .guard .given ∙ start .pre .0)
+    (c .before .before .before .name-frame .ensures)
+    in
+    (named .0, (named .1, λ k. ap Word (c .word-at .ensures) ∙ entry-is (start .args .guest) (start .args .designation) (start .args .storage .now) (start .args .real) (start .pre .2) _ at _ behind k))
 
 same-length-2 : tie.Need-same-length-2
 same-length-2 c = search needs
 
 returns-3 : tie.Need-returns-3
+unfolding entryBehind
 returns-3 c =
-    let page = c .before .before .backing in
-    let host = c .before .before .before .before .before in
-    let start = host .before .before .before .before .before .before .before .before in (
-      host .name-host .ensures .0,
-      entry-failed (start .args .guest) (start .args .designation) (start .args .storage .now) (start .args .real) (start .pre .2) _ (host .before .before .before .before .before .prefixed .ensures) _ (host .name-host .ensures .1) _
-          (sym (page .ensures (start .args .guest) refl refl) ∙ c .enum-told .given .1),
-    )
+    let page = c .before .before .before .backing in
+    let host = c .before .before .before .before .before .before in
+    let start = host .before .before .before .before .before .before .before .before in
+    let at = host .before .before .before .before .before .prefixed .ensures in
+    let behind = sym (page .ensures (start .args .guest) refl refl) ∙ c .before .f .given .1 in
+    (host .name-host .ensures .0, (entry-failed (start .args .guest) (start .args .designation) (start .args .storage .now) (start .args .real) (start .pre .2) _ at _ (host .name-host .ensures .1) _ behind, entry-is (start .args .guest) (start .args .designation) (start .args .storage .now) (start .args .real) (start .pre .2) _ at _ behind))
 
 pub name-entry-spec : {M : Type 1} → statement M
 name-entry-spec =
@@ -91,7 +120,12 @@ name-entry-spec =
     backing-requires
     enum-known-frame
     name-frame-requires
-    enum-told
+    cast-word-at
+    mul-word-at
+    cast-word-at-2
+    add-word-at
+    word-at-requires
+    enum-known-f
     same-length
     returns-2
     same-length-2

@@ -1,7 +1,7 @@
 -- `guard::name_tables` meets its contract.
 -- Assumes nothing.
-use mathlib.Core.Path.{_∙_}
 use borrow.Author.Needs.{needs}
+use mathlib.Core.Path.{_∙_}
 use borrow.Author.Tests.{eq-eqb, ne-eqb}
 use Rattle.machine.specs.Addresses.{formatGood}
 use Rattle.address.specs.Touching.{seen}
@@ -35,23 +35,15 @@ table-leads-requires : tie.Need-table-leads-requires
 table-leads-requires c κs = search needs
 
 name-through-requires : tie.Need-name-through-requires
-name-through-requires c κs =
-    let start = c .before .before .before .before .before .before .before .before .before in
-    (start .pre .0, start .pre .1, rw (c .before .table-leads .ensures) (aligned-tableLeads _ _ _))
-
-read-through-requires : tie.Need-read-through-requires
-read-through-requires c κs = (c .before .before .before .before .before .before .before .before .before .before .before .before .pre .1, rw (c .before .before .before .before .table-leads .ensures) (aligned-tableLeads _ _ _))
+name-through-requires c κs = let start = c .before .before .before .before .before .before .before .before .before in (start .pre .0, start .pre .1, rw (c .table-leads .ensures) (aligned-tableLeads _ _ _))
 
 segment-leads-requires : tie.Need-segment-leads-requires
 segment-leads-requires c κs = search needs
 
 name-through-requires-2 : tie.Need-name-through-requires-2
 name-through-requires-2 c κs =
-    let start = c .before .before .before .before .before .before .before .before .before .before .before .before .before .before .before in
-    (c .before .before .before .before .guard .given ∙ start .pre .0, start .pre .1, rw (c .before .segment-leads .ensures) (aligned-segmentLeads _ _ _))
-
-read-through-requires-2 : tie.Need-read-through-requires-2
-read-through-requires-2 c κs = (c .before .before .before .before .before .before .before .before .before .before .before .before .before .before .before .before .before .before .pre .1, rw (c .before .before .before .before .segment-leads .ensures) (aligned-segmentLeads _ _ _))
+    let start = c .before .before .before .before .before .before .before .before .before .before .before .before .before .before in
+    (c .before .before .before .guard .given ∙ start .pre .0, start .pre .1, rw (c .segment-leads .ensures) (aligned-segmentLeads _ _ _))
 
 page-leads-requires : tie.Need-page-leads-requires
 page-leads-requires c κs = search needs
@@ -62,27 +54,26 @@ same-length c = search needs
 returns-3 : tie.Need-returns-3
 unfolding formatGood
 returns-3 c =
-    let back4 = c .before .before .before .before in
-    let back7 = back4 .before .before .before in
-    let back10 = back7 .before .before .before in
-    let back14 = back10 .before .before .before .before in
-    let start = back14 .before .before .before .before .before .before in
-    let first = back10 .name-through .ensures in
-    let second = back4 .name-through2 .ensures in (
+    let paged = c .before .before .before in
+    let led = paged .before .before .before .before .before .before in
+    let good = led .before .before .before in
+    let start = good .before .before .before .before .before .before in
+    let first = paged .before .before .before .before .before .name-through .ensures in
+    let second = paged .name-through2 .ensures in (
       λ frame named. second .0 frame (first .0 frame named),
       real-walked _ (start .args .guest) (start .args .designation) (start .args .storage .now) (seen (start .args .psw) _) (start .args .a)
-          (eq-eqb _ _ (back14 .before .before .if1 .left))
-          (eq-eqb _ _ (back14 .if2 .left))
+          (eq-eqb _ _ (good .before .before .if1 .left))
+          (eq-eqb _ _ (good .if2 .left))
           _ _ _ _ _
-          (back10 .before .before .table-leads .ensures)
-          (back7 .read-through .ensures)
-          (back4 .before .before .segment-leads .ensures)
-          (c .before .read-through2 .ensures)
+          (led .table-leads .ensures)
+          (first .1 .1)
+          (paged .before .segment-leads .ensures)
+          (second .1 .1)
           (c .page-leads .ensures)
           _
           (second .0)
-          (first .1)
-          (second .1),
+          (first .1 .0)
+          (second .1 .0),
     )
 
 pub name-tables-spec : {M : Type 1} → statement M
@@ -95,10 +86,8 @@ name-tables-spec =
     element-copy-out-cr1
     table-leads-requires
     name-through-requires
-    read-through-requires
     segment-leads-requires
     name-through-requires-2
-    read-through-requires-2
     page-leads-requires
     same-length
     returns-3)

@@ -1,10 +1,10 @@
--- `address::entry_of` meets its contract.
+-- `guard::entry_of` meets its contract.
 -- Assumes nothing.
 use borrow.Author.Needs.{needs}
 use Rattle.machine.proofs.Tests.{tests}
 use Rattle.address.specs.Locating.{entryIn}
-use Rattle.address.proofs.entry_of.Statement.{statement}
-use Rattle.address.proofs.entry_of.Tie as tie
+use Rattle.guard.proofs.entry_of.Statement.{statement}
+use Rattle.guard.proofs.entry_of.Tie as tie
 
 cast-t4 : tie.Need-cast-t4
 cast-t4 c = search needs

@@ -1,10 +1,10 @@
--- `address::segment_leads` meets its contract.
+-- `guard::segment_leads` meets its contract.
 -- Assumes nothing.
 use borrow.Author.Needs.{needs}
 use mathlib.Core.Path.{sym}
 use Rattle.storage.specs.Steps.{segmentLeads}
-use Rattle.address.proofs.segment_leads.Statement.{statement}
-use Rattle.address.proofs.segment_leads.Tie as tie
+use Rattle.guard.proofs.segment_leads.Statement.{statement}
+use Rattle.guard.proofs.segment_leads.Tie as tie
 
 enum-known-e : tie.Need-enum-known-e
 enum-known-e c = search needs

@@ -1,10 +1,10 @@
--- `address::page_leads` meets its contract.
+-- `guard::page_leads` meets its contract.
 -- Assumes nothing.
 use borrow.Author.Needs.{needs}
 use mathlib.Core.Path.{sym}
 use Rattle.machine.specs.Walk.{walkPage}
-use Rattle.address.proofs.page_leads.Statement.{statement}
-use Rattle.address.proofs.page_leads.Tie as tie
+use Rattle.guard.proofs.page_leads.Statement.{statement}
+use Rattle.guard.proofs.page_leads.Tie as tie
 
 enum-known-e : tie.Need-enum-known-e
 enum-known-e c = search needs

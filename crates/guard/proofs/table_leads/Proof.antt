@@ -1,9 +1,9 @@
--- `address::table_leads` meets its contract.
+-- `guard::table_leads` meets its contract.
 -- Assumes nothing.
 use borrow.Author.Needs.{needs}
 use mathlib.Core.Path.{sym}
-use Rattle.address.proofs.table_leads.Statement.{statement}
-use Rattle.address.proofs.table_leads.Tie as tie
+use Rattle.guard.proofs.table_leads.Statement.{statement}
+use Rattle.guard.proofs.table_leads.Tie as tie
 
 by-table-requires : tie.Need-by-table-requires
 by-table-requires c κs = search needs

@@ -1,10 +1,10 @@
--- `address::page_of` meets its contract.
+-- `guard::page_of` meets its contract.
 -- Assumes nothing.
 use borrow.Author.Needs.{needs}
 use Rattle.machine.proofs.Tests.{tests}
 use Rattle.address.specs.Locating.{pageIn}
-use Rattle.address.proofs.page_of.Statement.{statement}
-use Rattle.address.proofs.page_of.Tie as tie
+use Rattle.guard.proofs.page_of.Statement.{statement}
+use Rattle.guard.proofs.page_of.Tie as tie
 
 cast-t5 : tie.Need-cast-t5
 cast-t5 c = search needs

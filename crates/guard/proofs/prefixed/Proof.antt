@@ -1,10 +1,10 @@
--- `address::prefixed` meets its contract.
+-- `guard::prefixed` meets its contract.
 -- Assumes nothing.
 use borrow.Author.Needs.{needs}
 use Rattle.machine.specs.Addresses.{prefixed}
 use Rattle.machine.proofs.Tests.{tests}
-use Rattle.address.proofs.prefixed.Statement.{statement}
-use Rattle.address.proofs.prefixed.Tie as tie
+use Rattle.guard.proofs.prefixed.Statement.{statement}
+use Rattle.guard.proofs.prefixed.Tie as tie
 
 mul-result : tie.Need-mul-result
 mul-result c = search needs
