@@ -1,13 +1,13 @@
 -- The steps over an entry that may lie beyond the storage, whose word is tested first.
 -- Assumes nothing.
-use Prim.Native.Nat.{ℕ, _+_, _%_, _^_, _<_}
+use Prim.Native.Nat.{ℕ, _%_, _^_, _<_}
 use native.Mathlib.Omega.{arith}
 use mathlib.Core.Path.{_≡_, refl, ap, sym, _∙_}
 use mathlib.Core.Bool.{Bool, true, false, cond}
 use mathlib.Core.List.{List}
 use borrow.Author.Tests.{le-ltb}
 use Rattle.machine.specs.declared.TableEntry.the-variants.{Word, Unread}
-use Rattle.machine.specs.declared.Walk.the-variants.{Page, Failed}
+use Rattle.machine.specs.declared.Walk.the-variants.{Failed}
 use Rattle.machine.specs.Words.{wordAt}
 use Rattle.machine.specs.Failures.{addressing, hostFault}
 use Rattle.machine.specs.Walk.{pageIndex, walkPage}
@@ -20,11 +20,11 @@ module _ (a code : ℕ) (few : code < 2 ^ 32) where
   own-code : stopped code % 2 ^ 32 ≡ code
   own-code = omega arith
 
-  pub leads-stopped : leadsOn a (stopped code) ≡ Unread (hostFault a code)
+  leads-stopped : leadsOn a (stopped code) ≡ Unread (hostFault a code)
   unfolding leadsOn
   leads-stopped = rw (le-ltb (stopped code) (2 ^ 32) (omega arith), own-code)
 
-  pub page-stopped : pageFound a (stopped code) ≡ Failed (hostFault a code)
+  page-stopped : pageFound a (stopped code) ≡ Failed (hostFault a code)
   unfolding pageFound
   page-stopped = rw (le-ltb (stopped code) (2 ^ 32) (omega arith), own-code)
 

@@ -1,7 +1,6 @@
 -- `address::locate` meets its contract.
 -- Assumes nothing.
 use borrow.Author.Needs.{needs}
-use mathlib.Core.Path.{sym, _∙_}
 use Rattle.machine.specs.Failures.{walkException}
 use Rattle.address.specs.Locating.{failureIn, placeIn}
 use Rattle.address.proofs.Touches.{touched-is}

@@ -3,7 +3,6 @@
 use borrow.Author.Needs.{needs}
 use mathlib.Core.Path.{sym, _∙_}
 use Rattle.address.specs.Touching.{settled}
-use Rattle.machine.proofs.Tests.{tests}
 use native.Mathlib.Omega.{arith}
 use Rattle.machine.specs.Failures.{walkException}
 use Rattle.address.proofs.Located.{failed-place, failure-fault, found-place}

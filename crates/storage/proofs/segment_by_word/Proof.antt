@@ -4,7 +4,7 @@ use borrow.Author.Needs.{needs}
 use Rattle.machine.proofs.Tests.{tests}
 use native.Mathlib.Omega.{arith}
 use native.Mathlib.Nat.{div-one}
-use Rattle.storage.proofs.Held.{leads-stopped, segment-held}
+use Rattle.storage.proofs.Held.{segment-held}
 use Rattle.storage.specs.Steps.{segmentLeads}
 use Rattle.storage.specs.Found.{leadsOn}
 use Rattle.storage.specs.Steps.{inside, segmentLeads}

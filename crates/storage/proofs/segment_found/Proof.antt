@@ -5,9 +5,7 @@ use Rattle.machine.proofs.Tests.{tests}
 use Rattle.storage.specs.Steps.{readThrough, tableLeads, segmentLeads}
 use Rattle.storage.specs.Found.{leadsOn}
 use Rattle.storage.proofs.Held.{held-read}
-use mathlib.Core.Path.{_∙_}
 use native.Mathlib.Nat.{div-one}
-use borrow.Author.Tests.{le-ltb}
 use Rattle.storage.proofs.Found.{table-read}
 use Rattle.storage.proofs.segment_found.Statement.{statement}
 use Rattle.storage.proofs.segment_found.Tie as tie
