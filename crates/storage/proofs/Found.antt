@@ -11,9 +11,9 @@ use Rattle.machine.specs.Refusals.{framesOf}
 use Rattle.machine.specs.Failures.{hostFault}
 use Rattle.machine.specs.Walk.{segmentIndex, segmentEntryAt, pastSegmentTable, pageIndex, pageEntryAt, pastPageTable, frameOf, pageProtected, walkPage}
 use Rattle.machine.specs.Host.{host, hostEntry, inStorage, hostPage}
+use Rattle.machine.proofs.Backing.{page-in-storage}
 use Rattle.storage.specs.Steps.{readThrough, tableLeads}
 use Rattle.storage.specs.Found.{leadsOn, pageFound, Serves}
-use Rattle.machine.proofs.Backing.{page-in-storage}
 use Rattle.storage.proofs.Faults.{OwnWalk, own-host-page}
 use Rattle.storage.proofs.Steps.{walk-in-steps}
 

@@ -1,9 +1,9 @@
 -- `address::by_page` meets its contract.
 -- Assumes nothing.
-use borrow.Author.Needs.{needs}
-use Rattle.machine.proofs.Tests.{tests}
 use native.Mathlib.Omega.{arith}
+use borrow.Author.Needs.{needs}
 use Rattle.machine.specs.Walk.{walkPage}
+use Rattle.machine.proofs.Tests.{tests}
 use Rattle.address.specs.Locating.{failureIn, pageIn}
 use Rattle.address.proofs.Located.{frame-whole}
 use Rattle.address.proofs.by_page.Statement.{statement}

@@ -1,13 +1,13 @@
 -- `address::by_segment` meets its contract.
 -- Assumes nothing.
-use borrow.Author.Needs.{needs}
-use Rattle.machine.proofs.Tests.{tests}
+use Prim.Native.Nat.{_+_, _*_, _/_, _%_, _^_, _<_}
 use native.Mathlib.Nat.{div-one}
+use native.Mathlib.Omega.{arith}
+use borrow.Author.Needs.{needs}
+use borrow.Author.Tests.{lt-ltb}
+use Rattle.machine.proofs.Tests.{tests}
 use Rattle.storage.specs.Steps.{segmentLeads}
 use Rattle.address.specs.Locating.{failureIn, entryIn}
-use native.Mathlib.Omega.{arith}
-use Prim.Native.Nat.{_+_, _*_, _/_, _%_, _^_, _<_}
-use borrow.Author.Tests.{lt-ltb}
 use Rattle.address.proofs.by_segment.Statement.{statement}
 use Rattle.address.proofs.by_segment.Tie as tie
 

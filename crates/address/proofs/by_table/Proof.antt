@@ -1,11 +1,11 @@
 -- `address::by_table` meets its contract.
 -- Assumes nothing.
-use borrow.Author.Needs.{needs}
-use Rattle.machine.proofs.Tests.{tests}
+use Prim.Native.Nat.{_+_, _*_, _/_, _%_, _^_, _<_}
 use native.Mathlib.Omega.{arith}
 use native.Mathlib.Nat.{div-one}
-use Prim.Native.Nat.{_+_, _*_, _/_, _%_, _^_, _<_}
+use borrow.Author.Needs.{needs}
 use borrow.Author.Tests.{lt-ltb}
+use Rattle.machine.proofs.Tests.{tests}
 use Rattle.storage.specs.Steps.{tableLeads}
 use Rattle.address.specs.Locating.{failureIn, entryIn}
 use Rattle.address.proofs.by_table.Statement.{statement}

@@ -1,8 +1,8 @@
 -- `address::failure_of` meets its contract.
 -- Assumes nothing.
 use borrow.Author.Needs.{needs}
-use Rattle.machine.proofs.Tests.{tests}
 use Rattle.machine.specs.Failures.{walkException}
+use Rattle.machine.proofs.Tests.{tests}
 use Rattle.address.specs.Locating.{failureIn}
 use Rattle.address.proofs.failure_of.Statement.{statement}
 use Rattle.address.proofs.failure_of.Tie as tie

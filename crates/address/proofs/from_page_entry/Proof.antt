@@ -1,12 +1,12 @@
 -- `address::from_page_entry` meets its contract.
 -- Assumes nothing.
-use borrow.Author.Needs.{needs}
+use Prim.Native.Nat.{_%_, _^_}
 use native.Mathlib.Omega.{arith}
+use borrow.Author.Needs.{needs}
 use Rattle.machine.specs.Walk.{walkPage}
 use Rattle.storage.proofs.Found.{served-page, found-code}
-use Rattle.address.proofs.Located.{failed-page, sees-bound, entry-outside, entry-stopped, entry-found}
 use Rattle.address.specs.Locating.{faultNumber}
-use Prim.Native.Nat.{_%_, _^_}
+use Rattle.address.proofs.Located.{failed-page, sees-bound, entry-outside, entry-stopped, entry-found}
 use Rattle.address.proofs.from_page_entry.Statement.{statement}
 use Rattle.address.proofs.from_page_entry.Tie as tie
 
@@ -39,7 +39,10 @@ page-for-requires : tie.Need-page-for-requires
 page-for-requires c κs = search needs
 
 faulted-requires : tie.Need-faulted-requires
-faulted-requires c κs = found-code (c .before .before .before .before .before .before .args .designation) (c .before .before .before .before .before .before .args .storage .now) _ _ (served-page _ _ _ _ _ _ (c .before .before .segment-for .ensures .0) (c .before .before .segment-for .ensures .1) (c .before .page-for .ensures)) (c .if2 .taken)
+faulted-requires c κs =
+    let start = c .before .before .before .before .before .before in
+    let segment = c .before .before .segment-for in
+    found-code (start .args .designation) (start .args .storage .now) _ _ (served-page _ _ _ _ _ _ (segment .ensures .0) (segment .ensures .1) (c .before .page-for .ensures)) (c .if2 .taken)
 
 without-segment-requires-2 : tie.Need-without-segment-requires-2
 without-segment-requires-2 c κs = search needs

@@ -1,15 +1,15 @@
 -- `address::from_segment_entry` meets its contract.
 -- Assumes nothing.
-use borrow.Author.Needs.{needs}
-use native.Mathlib.Omega.{arith}
-use Rattle.machine.specs.Walk.{walkPage}
-use Rattle.storage.proofs.Found.{served-page, found-code}
-use Rattle.address.proofs.Located.{failed-entry, good-entry, failed-page, sees-bound, entry-outside, entry-stopped, entry-found}
-use Rattle.address.specs.Locating.{faultNumber}
 use Prim.Native.Nat.{_%_, _^_}
+use native.Mathlib.Omega.{arith}
 use mathlib.Core.Path.{subst, _∙_}
+use borrow.Author.Needs.{needs}
+use Rattle.machine.specs.Walk.{walkPage}
 use Rattle.storage.specs.Steps.{readThrough, segmentLeads}
+use Rattle.storage.proofs.Found.{served-page, found-code}
+use Rattle.address.specs.Locating.{faultNumber}
 use Rattle.address.specs.Touching.{Aligned}
+use Rattle.address.proofs.Located.{failed-entry, good-entry, failed-page, sees-bound, entry-outside, entry-stopped, entry-found}
 use Rattle.address.proofs.Touches.{aligned-segmentLeads}
 use Rattle.address.proofs.from_segment_entry.Statement.{statement}
 use Rattle.address.proofs.from_segment_entry.Tie as tie

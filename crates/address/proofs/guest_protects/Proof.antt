@@ -1,10 +1,10 @@
 -- `address::guest_protects` meets its contract.
 -- Assumes nothing.
-use borrow.Author.Needs.{needs}
-use Rattle.machine.proofs.Tests.{tests}
 use mathlib.Core.Path.{sym, _∙_}
+use borrow.Author.Needs.{needs}
 use borrow.Author.Tests.{ne-eqb}
 use Rattle.machine.specs.Addresses.{keyProtects}
+use Rattle.machine.proofs.Tests.{tests}
 use Rattle.address.proofs.guest_protects.Statement.{statement}
 use Rattle.address.proofs.guest_protects.Tie as tie
 

@@ -1,12 +1,12 @@
 -- `address::in_page` meets its contract.
 -- Assumes nothing.
-use borrow.Author.Needs.{needs}
-use native.Mathlib.Omega.{arith}
-use Rattle.storage.proofs.Found.{served-page, found-code, found-in-storage}
-use Rattle.address.proofs.Located.{failed-page, good-page, failed-place, sees-bound, behind-virtual, behind-outside, behind-found, behind-stopped}
-use Rattle.address.specs.Locating.{faultNumber}
 use Prim.Native.Nat.{_%_, _^_}
+use native.Mathlib.Omega.{arith}
+use borrow.Author.Needs.{needs}
+use Rattle.storage.proofs.Found.{served-page, found-code, found-in-storage}
+use Rattle.address.specs.Locating.{faultNumber}
 use Rattle.address.specs.Touching.{settled, touched}
+use Rattle.address.proofs.Located.{failed-page, good-page, failed-place, sees-bound, behind-virtual, behind-outside, behind-found, behind-stopped}
 use Rattle.address.proofs.Touches.{backing-keyless}
 use Rattle.address.proofs.in_page.Statement.{statement}
 use Rattle.address.proofs.in_page.Tie as tie

@@ -1,19 +1,19 @@
 -- `address::real_page` meets its contract.
 -- Assumes nothing.
-use borrow.Author.Needs.{needs}
 use native.Mathlib.Omega.{arith}
-use Rattle.machine.proofs.Tests.{tests}
-use Rattle.address.proofs.Located.{failed-entry, good-entry, failed-page, plain-page}
 use mathlib.Core.Path.{subst, _∙_}
+use borrow.Author.Needs.{needs}
+use borrow.Author.Tests.{eq-eqb}
 use Rattle.machine.specs.Addresses.{realPage, formatGood}
 use Rattle.machine.specs.Walk.{walkPage}
 use Rattle.machine.specs.Failures.{walkException}
+use Rattle.machine.proofs.Tests.{tests}
 use Rattle.storage.specs.Steps.{readThrough, segmentLeads}
 use Rattle.storage.proofs.Steps.{walk-in-steps}
 use Rattle.address.specs.Touching.{Aligned}
-use Rattle.address.proofs.Touches.{aligned-tableLeads}
 use Rattle.address.specs.Locating.{failureIn, pageIn}
-use borrow.Author.Tests.{eq-eqb}
+use Rattle.address.proofs.Located.{failed-entry, good-entry, failed-page, plain-page}
+use Rattle.address.proofs.Touches.{aligned-tableLeads}
 use Rattle.address.proofs.real_page.Statement.{statement}
 use Rattle.address.proofs.real_page.Tie as tie
 

@@ -1,12 +1,12 @@
 -- `address::settle` meets its contract.
 -- Assumes nothing.
-use borrow.Author.Needs.{needs}
-use mathlib.Core.Path.{sym, _∙_}
-use Rattle.address.specs.Touching.{settled}
 use native.Mathlib.Omega.{arith}
+use mathlib.Core.Path.{sym, _∙_}
+use borrow.Author.Needs.{needs}
 use Rattle.machine.specs.Failures.{walkException}
-use Rattle.address.proofs.Located.{failed-place, failure-fault, found-place}
+use Rattle.address.specs.Touching.{settled}
 use Rattle.address.specs.Locating.{faultNumber, failureIn, placeIn}
+use Rattle.address.proofs.Located.{failed-place, failure-fault, found-place}
 use Rattle.address.proofs.settle.Statement.{statement}
 use Rattle.address.proofs.settle.Tie as tie
 

@@ -1,7 +1,7 @@
 -- `address::touch` meets its contract.
 -- Assumes nothing.
-use borrow.Author.Needs.{needs}
 use mathlib.Core.Path.{refl, sym}
+use borrow.Author.Needs.{needs}
 use Rattle.address.proofs.touch.Statement.{statement}
 use Rattle.address.proofs.touch.Tie as tie
 

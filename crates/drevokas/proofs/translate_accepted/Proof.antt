@@ -1,7 +1,7 @@
 -- `drevokas::translate_accepted` meets its contract.
 -- Assumes nothing.
-use borrow.Author.Needs.{needs}
 use mathlib.Core.Path.{ap, sym, _∙_}
+use borrow.Author.Needs.{needs}
 use Rattle.machine.specs.Record.{cpuOf}
 use Rattle.machine.specs.Operations.{translatedAs}
 use Rattle.drevokas.specs.Packing.{answered}

@@ -1,7 +1,7 @@
 -- `execute::interrupt` meets its contract.
 -- Assumes nothing.
-use borrow.Author.Needs.{needs}
 use mathlib.Core.Path.{refl}
+use borrow.Author.Needs.{needs}
 use Rattle.machine.specs.Host.{host, backing, hostPage}
 use Rattle.address.proofs.Touches.{inside-backing, backed-backing}
 use Rattle.execute.proofs.interrupt.Statement.{statement}

@@ -1,7 +1,7 @@
 -- `guard::name_entry` meets its contract.
 -- Assumes nothing.
-use borrow.Author.Needs.{needs}
 use mathlib.Core.Path.{refl, sym, ap, _∙_}
+use borrow.Author.Needs.{needs}
 use Rattle.machine.specs.declared.TableEntry.the-variants.{Word}
 use Rattle.address.specs.Touching.{entryBehind}
 use Rattle.guard.proofs.Guarded.{entry-above, entry-failed, entry-found, entry-is, entry-past, entry-fits}

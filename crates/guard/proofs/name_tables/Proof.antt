@@ -1,7 +1,7 @@
 -- `guard::name_tables` meets its contract.
 -- Assumes nothing.
-use borrow.Author.Needs.{needs}
 use mathlib.Core.Path.{_∙_}
+use borrow.Author.Needs.{needs}
 use borrow.Author.Tests.{eq-eqb, ne-eqb}
 use Rattle.machine.specs.Addresses.{formatGood}
 use Rattle.address.specs.Touching.{seen}

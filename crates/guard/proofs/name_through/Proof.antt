@@ -1,7 +1,7 @@
 -- `guard::name_through` meets its contract.
 -- Assumes nothing.
-use borrow.Author.Needs.{needs}
 use mathlib.Core.Path.{subst}
+use borrow.Author.Needs.{needs}
 use Rattle.storage.specs.Steps.{readThrough}
 use Rattle.address.specs.Touching.{Aligned}
 use Rattle.guard.proofs.name_through.Statement.{statement}

@@ -1,7 +1,7 @@
 -- `guard::page_leads` meets its contract.
 -- Assumes nothing.
-use borrow.Author.Needs.{needs}
 use mathlib.Core.Path.{sym}
+use borrow.Author.Needs.{needs}
 use Rattle.machine.specs.Walk.{walkPage}
 use Rattle.guard.proofs.page_leads.Statement.{statement}
 use Rattle.guard.proofs.page_leads.Tie as tie

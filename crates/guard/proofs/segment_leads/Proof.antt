@@ -1,7 +1,7 @@
 -- `guard::segment_leads` meets its contract.
 -- Assumes nothing.
-use borrow.Author.Needs.{needs}
 use mathlib.Core.Path.{sym}
+use borrow.Author.Needs.{needs}
 use Rattle.storage.specs.Steps.{segmentLeads}
 use Rattle.guard.proofs.segment_leads.Statement.{statement}
 use Rattle.guard.proofs.segment_leads.Tie as tie

@@ -1,7 +1,7 @@
 -- `guard::table_leads` meets its contract.
 -- Assumes nothing.
-use borrow.Author.Needs.{needs}
 use mathlib.Core.Path.{sym}
+use borrow.Author.Needs.{needs}
 use Rattle.guard.proofs.table_leads.Statement.{statement}
 use Rattle.guard.proofs.table_leads.Tie as tie
 

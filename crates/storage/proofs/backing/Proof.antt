@@ -1,8 +1,8 @@
 -- `storage::backing` meets its contract.
 -- Assumes nothing.
 use borrow.Author.Needs.{needs}
-use Rattle.machine.proofs.Tests.{tests}
 use Rattle.machine.specs.Host.{backing}
+use Rattle.machine.proofs.Tests.{tests}
 use Rattle.storage.proofs.backing.Statement.{statement}
 use Rattle.storage.proofs.backing.Tie as tie
 

@@ -1,7 +1,7 @@
 -- `storage::host_page` meets its contract.
 -- Assumes nothing.
-use borrow.Author.Needs.{needs}
 use mathlib.Core.Path.{sym}
+use borrow.Author.Needs.{needs}
 use Rattle.storage.proofs.host_page.Statement.{statement}
 use Rattle.storage.proofs.host_page.Tie as tie
 

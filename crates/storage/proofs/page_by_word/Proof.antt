@@ -1,13 +1,13 @@
 -- `storage::page_by_word` meets its contract.
 -- Assumes nothing.
-use borrow.Author.Needs.{needs}
-use Rattle.machine.proofs.Tests.{tests}
 use native.Mathlib.Omega.{arith}
-use Rattle.storage.proofs.Held.{page-held}
+use borrow.Author.Needs.{needs}
 use Rattle.machine.specs.Walk.{walkPage}
 use Rattle.machine.specs.Host.{inStorage}
+use Rattle.machine.proofs.Tests.{tests}
 use Rattle.storage.specs.Found.{pageFound}
 use Rattle.storage.specs.Steps.{inside}
+use Rattle.storage.proofs.Held.{page-held}
 use Rattle.storage.proofs.page_by_word.Statement.{statement}
 use Rattle.storage.proofs.page_by_word.Tie as tie
 

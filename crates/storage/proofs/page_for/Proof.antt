@@ -1,13 +1,13 @@
 -- `storage::page_for` meets its contract.
 -- Assumes nothing.
-use borrow.Author.Needs.{needs}
-use Rattle.machine.proofs.Tests.{tests}
 use native.Mathlib.Nat.{div-one}
 use native.Mathlib.Omega.{arith}
-use Rattle.storage.specs.Found.{leadsOn, pageFound}
-use Rattle.storage.specs.Steps.{readThrough}
+use borrow.Author.Needs.{needs}
 use Rattle.machine.specs.Walk.{walkPage}
 use Rattle.machine.specs.Host.{inStorage}
+use Rattle.machine.proofs.Tests.{tests}
+use Rattle.storage.specs.Found.{leadsOn, pageFound}
+use Rattle.storage.specs.Steps.{readThrough}
 use Rattle.storage.proofs.Held.{held-read}
 use Rattle.storage.proofs.Found.{page-served, segment-read}
 use Rattle.storage.proofs.page_for.Statement.{statement}

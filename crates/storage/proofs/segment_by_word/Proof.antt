@@ -1,13 +1,13 @@
 -- `storage::segment_by_word` meets its contract.
 -- Assumes nothing.
-use borrow.Author.Needs.{needs}
-use Rattle.machine.proofs.Tests.{tests}
 use native.Mathlib.Omega.{arith}
 use native.Mathlib.Nat.{div-one}
-use Rattle.storage.proofs.Held.{segment-held}
+use borrow.Author.Needs.{needs}
+use Rattle.machine.proofs.Tests.{tests}
 use Rattle.storage.specs.Steps.{segmentLeads}
 use Rattle.storage.specs.Found.{leadsOn}
 use Rattle.storage.specs.Steps.{inside, segmentLeads}
+use Rattle.storage.proofs.Held.{segment-held}
 use Rattle.storage.proofs.segment_by_word.Statement.{statement}
 use Rattle.storage.proofs.segment_by_word.Tie as tie
 

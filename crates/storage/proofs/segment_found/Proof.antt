@@ -1,11 +1,11 @@
 -- `storage::segment_found` meets its contract.
 -- Assumes nothing.
+use native.Mathlib.Nat.{div-one}
 use borrow.Author.Needs.{needs}
 use Rattle.machine.proofs.Tests.{tests}
 use Rattle.storage.specs.Steps.{readThrough, tableLeads, segmentLeads}
 use Rattle.storage.specs.Found.{leadsOn}
 use Rattle.storage.proofs.Held.{held-read}
-use native.Mathlib.Nat.{div-one}
 use Rattle.storage.proofs.Found.{table-read}
 use Rattle.storage.proofs.segment_found.Statement.{statement}
 use Rattle.storage.proofs.segment_found.Tie as tie
