@@ -137,6 +137,18 @@ static void dat_off(struct rig *r)
         r->addresses[i] = (r->addresses[i] & 0x3fff) + (DATA_PAGE << 12);
 }
 
+/* The guest's page tables in another host segment than its segment table and data: each of the three host walks of a call
+   needs another host segment entry than the one before it. */
+static void two_host_segments(struct rig *r)
+{
+    const uint32_t far_page = 242;
+
+    map_page(r, far_page, used_frame(r, 3) << 12);
+    map_page(r, far_page + 2, used_frame(r, 4) << 12);
+    guest_word(r, 2, 0, far_page << 12 | 15);
+    guest_word(r, 2, 17 * 4, (far_page + 2) << 12 | 15);
+}
+
 static void store(struct rig *r)
 {
     r->access = DREVOKAS_STORE;
@@ -260,6 +272,7 @@ static const struct row rows[] = {
     {"DAT off, fetch", dat_off, TRANSLATE, DREVOKAS_GOOD, 0, 8},
     {"DAT on, fetch", as_built, TRANSLATE, DREVOKAS_GOOD, 0, 8},
     {"DAT on, store", store, TRANSLATE, DREVOKAS_GOOD, 0, 8},
+    {"DAT on, two host segments", two_host_segments, TRANSLATE, DREVOKAS_GOOD, 0, 8},
     {"DAT on, fetch from 128 pages", many_pages, TRANSLATE, DREVOKAS_GOOD, 0, 4096},
     {"host fault 11 hex", no_host_page, TRANSLATE, DREVOKAS_HOST_FAULT, 0x11, 8},
     {"segment translation", no_segment, TRANSLATE, DREVOKAS_PROGRAM_EXCEPTION, 0x10, 8},

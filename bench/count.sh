@@ -24,7 +24,7 @@ counted() { # PROGRAM CASE FRAMES
 }
 
 printf '%-30s %6s %10s %10s\n' case frames drevokas plain
-for name in 'DAT off, fetch' 'DAT on, fetch' 'DAT on, store' 'host fault 11 hex' 'segment translation' 'key protection' \
+for name in 'DAT off, fetch' 'DAT on, fetch' 'DAT on, store' 'DAT on, two host segments' 'host fault 11 hex' 'segment translation' 'key protection' \
     'refusal 1' 'refusal 8' 'check, good'; do
     counted bench_translate "$name" 8
     counted bench_translate "$name" 4096
