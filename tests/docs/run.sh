@@ -9,3 +9,5 @@ if [ ! -x target/bin/case ]; then
     exit 1
 fi
 python3 tests/docs/check.py README.md docs/*.md
+python3 docs/pictures/make.py --check
+python3 tests/docs/definitions.py
