@@ -8,6 +8,6 @@ if [ ! -x target/bin/case ]; then
     echo "tests/docs/run.sh: no target/bin/case; build it first, with rt check case" >&2
     exit 1
 fi
-python3 tests/docs/check.py README.md docs/*.md
+python3 tests/docs/check.py *.md docs/*.md
 python3 docs/pictures/make.py --check
 python3 tests/docs/definitions.py
