@@ -1,37 +1,41 @@
 #!/usr/bin/env python3
 """definitions.py: holds docs/MACHINE.md to the definition. Every definition of crates/machine/specs, but for the statements of
-theorems, stands there by its name, and every name that stands there is one of the specs or of the types. Prints what is missing, and
-a count; fails if anything is."""
+theorems, stands there by its name, in backquotes; and every name that stands there is one of the specs or of the types. Prints what
+is missing, and a count; fails if anything is."""
 import glob
 import os
 import re
 import sys
 
 DOCUMENT = "docs/MACHINE.md"
-STATEMENTS = {"Theorems", "Lib"}  # README.md has the table of theorems
+THEOREMS = {"Theorems"}  # README.md has the table of theorems
+DEFINITION = r"^ *(?:(?:abbrev|unfoldable) pub|pub (?:record|data)) ([^\s:({]+)"
+WORD = r"[A-Za-z]\w*"
 
 
-def names(pattern, files):
-    """What the pattern finds in files, with the module that it stands in."""
-    found = {}
+def module(file):
+    return os.path.splitext(os.path.basename(file))[0]
+
+
+def found(pattern, files):
+    """What the pattern finds in files, comments left out, with the module in which it stands first."""
+    names = {}
     for file in files:
         with open(file) as text:
-            for name in re.findall(pattern, text.read(), re.M):
-                found.setdefault(name, os.path.splitext(os.path.basename(file))[0])
-    return found
+            for name in re.findall(pattern, re.sub(r"--.*|//.*", "", text.read()), re.M):
+                names.setdefault(name, module(file))
+    return names
 
 
-specs = glob.glob("crates/machine/specs/*.antt")
-definitions = names(r"^ *(?:(?:abbrev|unfoldable) pub|pub (?:record|data)) ([^\s:({]+)", specs)
-others = names(r"([A-Za-z][\w]*)", specs + glob.glob("crates/cases/specs/*.antt") + ["crates/machine/src/lib.rt"])
-with open(DOCUMENT) as file:
-    words = re.findall(r"`([A-Za-z]\w*(?:\.[A-Za-z]\w*)?)`", file.read())
-said = {part for word in words for part in word.split(".")}
-modules = {os.path.splitext(os.path.basename(file))[0] for file in specs + glob.glob("crates/cases/specs/*.antt")}
-missing = [f"{DOCUMENT}: no sentence for {module}.{name}" for name, module in sorted(definitions.items())
-           if module not in STATEMENTS and name not in said]
-unknown = [f"{DOCUMENT}: no definition named {name}" for name in sorted(said) if name not in others and name not in modules]
+machine = sorted(glob.glob("crates/machine/specs/*.antt"))
+known = machine + sorted(glob.glob("crates/cases/specs/*.antt")) + ["crates/machine/src/lib.rt"]
+definitions = {name: where for name, where in found(DEFINITION, machine).items() if where not in THEOREMS}
+words = found(WORD, known).keys() | {module(file) for file in known}
+with open(DOCUMENT) as document:
+    said = {part for name in re.findall(rf"`({WORD}(?:\.{WORD})?)`", document.read()) for part in name.split(".")}
+missing = [f"no sentence for {where}.{name}" for name, where in definitions.items() if name not in said]
+unknown = [f"no definition named {name}" for name in sorted(said - words)]
 for line in missing + unknown:
-    print(line)
-print(f"{len(definitions)} definitions, {len(said)} names in {DOCUMENT}, {len(missing) + len(unknown)} without the other")
+    print(f"{DOCUMENT}: {line}")
+print(f"{len(definitions)} definitions, {len(missing)} without a sentence in {DOCUMENT}; {len(unknown)} names in it without a definition")
 sys.exit(bool(missing or unknown))
