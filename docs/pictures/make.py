@@ -22,8 +22,8 @@ def fits(words, width, size):
 
 
 def text(x, y, words, size=13, anchor="start", fill=INK, bold=False):
-    weight = ' font-weight="bold"' if bold else ""
-    return [f'<text x="{x:g}" y="{y:g}" font-size="{size:g}" text-anchor="{anchor}" fill="{fill}"{weight}>{escape(words)}</text>']
+    style = f'font-size="{size:g}" text-anchor="{anchor}" fill="{fill}"' + (' font-weight="bold"' if bold else "")
+    return [f'<text x="{x:g}" y="{y:g}" {style}>{escape(words)}</text>']
 
 
 def rows(x, y, lines, size=13, fill=INK, anchor="start"):
@@ -71,8 +71,9 @@ def svg(width, height, title, drawn):
             f'<path d="M0 0 L8 4 L0 8 z" fill="{LINE}"/></marker></defs>')
     size = f'viewBox="0 0 {width:g} {height:g}" width="{width:g}" height="{height:g}"'
     paper = f'<rect x="0.5" y="0.5" width="{width - 1:g}" height="{height - 1:g}" rx="6" fill="{PAPER}" stroke="{LINE}"/>'
-    return "\n".join([f'<svg xmlns="http://www.w3.org/2000/svg" {size} font-family="{FONTS}" role="img">', f"<title>{escape(title)}</title>",
-                      head, paper, *text(30, 36, title, 17, bold=True), *drawn, "</svg>"]) + "\n"
+    first = f'<svg xmlns="http://www.w3.org/2000/svg" {size} font-family="{FONTS}" role="img">'
+    heading = text(30, 36, title, 17, bold=True)
+    return "\n".join([first, f"<title>{escape(title)}</title>", head, paper, *heading, *drawn, "</svg>"]) + "\n"
 
 
 # The two-level translation.
@@ -113,8 +114,10 @@ STEPS = [
 # The walk: what it goes through, and the tests made there.
 WALK = [
     (["designation", "1-19 table, x 4096", "25-31 length"], ["index / 16 above length:", "10 hex"]),
-    (["segment entry", "at table + 4 x index", "1-25 table, x 64", "28-31 length"], ["bit 26: 10 hex", "bit 0: 12 hex", "index / 16 above length:", "11 hex"]),
-    (["page entry", "at table + 4 x index", "1-19 page or frame", "22 protected"], ["bit 21: 11 hex", "bits 0, 20, 23: 12 hex"]),
+    (["segment entry", "at table + 4 x index", "1-25 table, x 64", "28-31 length"],
+     ["bit 26: 10 hex", "bit 0: 12 hex", "index / 16 above length:", "11 hex"]),
+    (["page entry", "at table + 4 x index", "1-19 page or frame", "22 protected"],
+     ["bit 21: 11 hex", "bits 0, 20, 23: 12 hex"]),
     (["real page (guest)", "or frame (host)", "then the byte, 12 bits"], []),
 ]
 
@@ -123,8 +126,9 @@ def step_box(middle, step):
     fill, heading, tests = step
     for line in tests:
         fits(line, 540, 13)
-    y = middle - (35 + 18 * len(tests)) / 2
-    return frame(280, y, 550, 35 + 18 * len(tests), fill) + text(294, y + 21, heading, 13.5, bold=True) + rows(294, y + 41, tests)
+    height = 35 + 18 * len(tests)
+    y = middle - height / 2
+    return frame(280, y, 550, height, fill) + text(294, y + 21, heading, 13.5, bold=True) + rows(294, y + 41, tests)
 
 
 def levels():
@@ -133,7 +137,8 @@ def levels():
         y = 60 + 104 * i
         drawn += box(30, y, 190, 46, names, fill)
         if i < len(STEPS):
-            drawn += path([(125, y + 46), (125, y + 103)]) + path([(280, y + 75), (131, y + 75)], arrow=False, dash="2 4") + step_box(y + 75, STEPS[i])
+            drawn += path([(125, y + 46), (125, y + 103)]) + path([(280, y + 75), (131, y + 75)], arrow=False, dash="2 4")
+            drawn += step_box(y + 75, STEPS[i])
     return drawn
 
 
@@ -149,9 +154,11 @@ def walk(y):
 
 
 def translation():
-    entries = path([(830, 135), (852, 135), (852, 447), (832, 447)]) + path([(852, 239), (832, 239)]) + path([(852, 343), (832, 343)])
+    entries = path([(830, 135), (852, 135), (852, 447), (832, 447)])
+    entries += path([(852, 239), (832, 239)]) + path([(852, 343), (832, 343)])
     key = legend(30, 664, [(GUEST, "the guest's program exceptions"), (HOST, "host faults"), (PLAIN, "both")])
-    return svg(900, 922, "From a guest address to a byte of storage: the tests of one byte, in their order", levels() + entries + key + walk(688))
+    title = "From a guest address to a byte of storage: the tests of one byte, in their order"
+    return svg(900, 922, title, levels() + entries + key + walk(688))
 
 
 # The record.
@@ -164,9 +171,11 @@ FIELDS = [
     (6, 2, KEPT, ["LCTL controls", "bit i: control register i"]),
     (8, 4, KEPT, ["prefix", "bits 1-19: number of the prefix page"]), (12, 2, KEPT, ["origin", "in blocks of 64 KiB"]),
     (14, 2, KEPT, ["extent", "in blocks of 64 KiB"]),
-    (16, 8, STATE, ["PSW"]), (24, 8, STATE, ["CPU timer"]), (32, 8, KEPT, ["clock comparator"]), (40, 8, KEPT, ["epoch difference"]),
-    (48, 1, KEPT, ["SVC flags", "0 all", "1-3 by number"]), (49, 1, KEPT, ["SVC", "number 1"]), (50, 1, KEPT, ["SVC", "number 2"]),
-    (51, 1, KEPT, ["SVC", "number 3"]), (52, 1, RESULT, ["code"]), (53, 1, RESULT, ["ILC"]), (54, 2, RESULT, ["interruption code"]),
+    (16, 8, STATE, ["PSW"]), (24, 8, STATE, ["CPU timer"]),
+    (32, 8, KEPT, ["clock comparator"]), (40, 8, KEPT, ["epoch difference"]),
+    (48, 1, KEPT, ["SVC flags", "0 all", "1-3 by number"]), (49, 1, KEPT, ["SVC", "number 1"]),
+    (50, 1, KEPT, ["SVC", "number 2"]), (51, 1, KEPT, ["SVC", "number 3"]),
+    (52, 1, RESULT, ["code"]), (53, 1, RESULT, ["ILC"]), (54, 2, RESULT, ["interruption code"]),
     (56, 4, RESULT, ["address"]), (60, 4, RESULT, ["instruction text, first four bytes"]),
     (64, 2, RESULT, ["text, last two bytes"]), (66, 6, KEPT, ["zero"]),
     (72, 4, STATE, ["CR0"]), (76, 4, STATE, ["CR1"]), (128, 4, STATE, ["CR14"]), (132, 4, STATE, ["CR15"]),
@@ -180,9 +189,9 @@ LOW = 42
 
 # The PSW's bits: name, first and last, width.
 PSW = [
-    ("zero", "0", 46), ("PER", "1", 40), ("zero", "2-4", 46), ("DAT", "5", 40), ("I/O", "6", 36), ("ext.", "7", 38), ("key", "8-11", 46), ("one", "12", 40),
-    ("m.c.", "13", 42), ("wait", "14", 42), ("prob.", "15", 46), ("sec.", "16", 40), ("zero", "17", 46), ("cc", "18-19", 48), ("ovfl.", "20", 46),
-    ("masks", "21-23", 56), ("zero", "24-31", 62),
+    ("zero", "0", 46), ("PER", "1", 40), ("zero", "2-4", 46), ("DAT", "5", 40), ("I/O", "6", 36), ("ext.", "7", 38),
+    ("key", "8-11", 46), ("one", "12", 40), ("m.c.", "13", 42), ("wait", "14", 42), ("prob.", "15", 46), ("sec.", "16", 40),
+    ("zero", "17", 46), ("cc", "18-19", 48), ("ovfl.", "20", 46), ("masks", "21-23", 56), ("zero", "24-31", 62),
 ]
 
 
@@ -194,7 +203,8 @@ def cell(first, length, fill, lines):
 
 
 def psw(y):
-    drawn, x = text(30, y - 12, "The PSW by bits; bit 32 is the addressing mode (one: 31 bits), bits 33-63 are the instruction address", 13, fill=DIM), 84
+    words = "The PSW by bits; bit 32 is the addressing mode (one: 31 bits), bits 33-63 are the instruction address"
+    drawn, x = text(30, y - 12, words, 13, fill=DIM), 84
     for name, which, width in PSW:
         drawn += box(x, y, width, 40, [name, which], STATE, 11.5)
         x += width
@@ -207,9 +217,11 @@ def record():
         drawn += cell(*field)
     for first, y in LINES.items():
         drawn += text(74, y + 24, str(first), 13, "end", DIM)
-    dots = text(476, 537, "control registers 2 to 13", 12.5, "middle", DIM) + text(476, 645, "general registers 2 to 13", 12.5, "middle", DIM)
-    key = legend(84, 728, [(STATE, "state: changed by units"), (RESULT, "results: set by the end of a run"), (KEPT, "kept by every operation")])
-    return svg(900, 852, "The record: 200 bytes, eight to a line, by the number of the first", drawn + dots + key + psw(790))
+    drawn += text(476, 537, "control registers 2 to 13", 12.5, "middle", DIM)
+    drawn += text(476, 645, "general registers 2 to 13", 12.5, "middle", DIM)
+    key = [(STATE, "state: changed by units"), (RESULT, "results: set by the end of a run"), (KEPT, "kept by every operation")]
+    title = "The record: 200 bytes, eight to a line, by the number of the first"
+    return svg(900, 852, title, drawn + legend(84, 728, key) + psw(790))
 
 
 # The crates, from crates.txt. Layers, with a place in each layer that a long line passes.
@@ -246,7 +258,8 @@ def layer_of(crates, name):
 
 
 def chains(crates):
-    """The lines, each as its nodes from the upper crate to the lower: a node is a layer and a name, and (upper, lower) where one only passes."""
+    """The lines, each as its nodes from the upper crate to the lower. A node is a layer and a name; where a line only passes, the
+    name is the pair of crates that it joins."""
     found = []
     for name, rest in crates.items():
         top = layer_of(crates, name)
@@ -374,7 +387,8 @@ def crates():
     for name in listed:
         node = (layer_of(listed, name), name)
         left, y = x[node] - BOX / 2, height - ROW * (node[0] + 1)
-        drawn += box(left, y, BOX, TALL, [name], PLAIN if name == CALLERS else GUEST if name == "machine" else STATE, 12.5, "4 3" if name == CALLERS else "")
+        fill, dash = {CALLERS: (PLAIN, "4 3"), "machine": (GUEST, "")}.get(name, (STATE, ""))
+        drawn += box(left, y, BOX, TALL, [name], fill, 12.5, dash)
     key = legend(30, height + 2, [(GUEST, "the definition"), (STATE, "code, proved"), (PLAIN, "C, tested")])
     width = max(max(x.values()) + BOX / 2 + 30, 520)
     return svg(width, height + 24, "The crates: an arrow leads to what is imported", drawn + key)
@@ -384,13 +398,14 @@ def crates():
 
 ENDS = [
     (PLAIN, ["R: refused", "kind 0, numbers 1 to 7"], ["No byte is changed.", "", "The host mends what it", "handed in."]),
-    (STATE, ["B: budget used", "kind 3"], ["All units are done.", "", "The host does its own", "work, and hands out", "more units."]),
+    (STATE, ["B: budget used", "kind 3"], [
+        "All units are done.", "", "The host does its own", "work, and hands out", "more units."]),
     (HOST, ["H: host fault", "kind 2, a program code"], [
-        "The unit is undone whole.", "", "The host mends the page", "of *where in its tables:", "4: it is protected", "5: beyond storage",
-        "10, 11, 12 hex: its entries"]),
+        "The unit is undone whole.", "", "The host mends the page", "of *where in its tables:", "4: it is protected",
+        "5: beyond storage", "10, 11, 12 hex: its entries"]),
     (RESULT, ["I: intercepted", "kind 1, a code"], [
-        "The host acts by code:", "4: simulates it", "8, 44: mends or presents it", "16, 24: presents, clears V", "20: presents, or time is up",
-        "28: waits", "32: mends the record", "40: stopped, clears V"]),
+        "The host acts by code:", "4: simulates it", "8, 44: mends or presents it", "16, 24: presents, clears V",
+        "20: presents, or time is up", "28: waits", "32: mends the record", "40: stopped, clears V"]),
 ]
 
 
@@ -404,14 +419,15 @@ def end_column(i, fill, heads, lines):
 
 def loop():
     drawn = box(30, 62, 210, 62, ["The host", "makes record, storage,", "keys and its tables"], PLAIN)
-    drawn += path([(240, 93), (333, 93)]) + box(335, 62, 240, 62, ["drevokas_run", "designation, clock, time,", "budget"], GUEST)
+    drawn += box(335, 62, 240, 62, ["drevokas_run", "designation, clock, time,", "budget"], GUEST) + path([(240, 93), (333, 93)])
     drawn += path([(455, 124), (455, 174)]) + text(466, 154, "answer: kind, number, units; *where", 13, fill=DIM)
     drawn += box(335, 176, 240, 46, ["clock += units x time", "whatever the end"], PLAIN)
     for i, end in enumerate(ENDS):
         drawn += end_column(i, *end)
     drawn += path([(130, 508), (915, 508), (915, 93), (578, 93)])
-    drawn += text(30, 534, "The same call again, with record, storage and keys as the run left them and as the host mended them. The library keeps", 13, fill=DIM)
-    drawn += text(30, 553, "nothing between calls; a run that is cut at any unit and resumed so is the uncut run (theorem resumption).", 13, fill=DIM)
+    drawn += rows(30, 534, [
+        "The same call again, with record, storage and keys as the run left them and as the host mended them. The library keeps",
+        "nothing between calls; a run that is cut at any unit and resumed so is the uncut run (theorem resumption)."], 13, DIM)
     return svg(940, 574, "The host's loop around run", drawn)
 
 

@@ -1,7 +1,7 @@
 #!/usr/bin/env python3
 """definitions.py: holds docs/MACHINE.md to the definition. Every definition of crates/machine/specs, but for the statements of
-theorems, stands there by its name, in backquotes; and every name that stands there is one of the specs or of the types. Prints what
-is missing, and a count; fails if anything is."""
+theorems, stands there by its name, in backquotes; and every name that stands there is one of the specs or of the types. Prints
+what is missing, and a count; fails if anything is."""
 import glob
 import os
 import re
@@ -37,5 +37,5 @@ missing = [f"no sentence for {where}.{name}" for name, where in definitions.item
 unknown = [f"no definition named {name}" for name in sorted(said - words)]
 for line in missing + unknown:
     print(f"{DOCUMENT}: {line}")
-print(f"{len(definitions)} definitions, {len(missing)} without a sentence in {DOCUMENT}; {len(unknown)} names in it without a definition")
+print(f"{len(definitions)} definitions, {len(missing)} without a sentence; {len(unknown)} names without a definition")
 sys.exit(bool(missing or unknown))
