@@ -258,8 +258,8 @@ def layer_of(crates, name):
 
 
 def chains(crates):
-    """The lines, each as its nodes from the upper crate to the lower. A node is a layer and a name; where a line only passes, the
-    name is the pair of crates that it joins."""
+    """The lines, each as its nodes from the upper crate to the lower. A node is a layer and a name; where a line only passes,
+    the name is the pair of crates that it joins."""
     found = []
     for name, rest in crates.items():
         top = layer_of(crates, name)
@@ -419,15 +419,16 @@ def end_column(i, fill, heads, lines):
 
 def loop():
     drawn = box(30, 62, 210, 62, ["The host", "makes record, storage,", "keys and its tables"], PLAIN)
-    drawn += box(335, 62, 240, 62, ["drevokas_run", "designation, clock, time,", "budget"], GUEST) + path([(240, 93), (333, 93)])
+    drawn += path([(240, 93), (333, 93)])
+    drawn += box(335, 62, 240, 62, ["drevokas_run", "designation, clock, time,", "budget"], GUEST)
     drawn += path([(455, 124), (455, 174)]) + text(466, 154, "answer: kind, number, units; *where", 13, fill=DIM)
     drawn += box(335, 176, 240, 46, ["clock += units x time", "whatever the end"], PLAIN)
     for i, end in enumerate(ENDS):
         drawn += end_column(i, *end)
     drawn += path([(130, 508), (915, 508), (915, 93), (578, 93)])
     drawn += rows(30, 534, [
-        "The same call again, with record, storage and keys as the run left them and as the host mended them. The library keeps",
-        "nothing between calls; a run that is cut at any unit and resumed so is the uncut run (theorem resumption)."], 13, DIM)
+        "The same call again, with record, storage and keys as the run left them and as the host mended them. The library",
+        "keeps nothing between calls; a run that is cut at any unit and resumed so is the uncut run (theorem resumption)."], 13, DIM)
     return svg(940, 574, "The host's loop around run", drawn)
 
 
