@@ -428,7 +428,8 @@ def loop():
     drawn += path([(130, 508), (915, 508), (915, 93), (578, 93)])
     drawn += rows(30, 534, [
         "The same call again, with record, storage and keys as the run left them and as the host mended them. The library",
-        "keeps nothing between calls; a run that is cut at any unit and resumed so is the uncut run (theorem resumption)."], 13, DIM)
+        "keeps nothing between calls; a run that is cut at any unit and resumed so is the uncut run (theorem resumption)."],
+        13, DIM)
     return svg(940, 574, "The host's loop around run", drawn)
 
 
