@@ -12,7 +12,7 @@
 #define PAGES_OF_BLOCK 16
 #define INDENT 21           /* columns before what is said of a page */
 #define ROOM 79             /* columns for it */
-#define MOST_SAID 240
+#define MOST_SAID 300
 
 /* The guest pages of one frame. */
 struct sharing {
@@ -187,9 +187,9 @@ static unsigned lines_of(const char *text)
     return lines;
 }
 
-static void print_range(const struct range *r, const char *text)
+/* Prints what is said, in as many lines as it needs. */
+static void print_folded(const char *text)
 {
-    printf("  %08lx-%08lx  ", (unsigned long)r->from * FRAME_BYTES, (unsigned long)r->to * FRAME_BYTES - 1);
     while (strlen(text) > ROOM) {
         printf("%.*s\n%*s", (int)fold(text), text, INDENT, "");
         text += fold(text) + 1;
@@ -206,7 +206,8 @@ static int list_range(struct view *v, const struct range *r)
     if (v->lines < lines)
         return 0;
     v->lines -= lines;
-    print_range(r, s.text);
+    printf("  %08lx-%08lx  ", (unsigned long)r->from * FRAME_BYTES, (unsigned long)r->to * FRAME_BYTES - 1);
+    print_folded(s.text);
     return 1;
 }
 
@@ -230,13 +231,15 @@ static void print_list(struct view *v)
 
 static void print_frames(const struct view *v)
 {
+    struct said s = {"", 0};
     unsigned i;
 
-    printf("  frames with table entries for these pages:");
+    say(&s, "frames with table entries for these pages:%s", v->tables == 0 ? " none" : "");
     for (i = 0; i < v->c->frames; i++)
         if (v->tables >> i & 1)
-            printf(" %u%s", i, v->of[i].count > 0 ? " (also a guest frame)" : "");
-    printf("%s\n", v->tables == 0 ? " none" : "");
+            say(&s, " %u%s", i, v->of[i].count > 0 ? " (also a guest frame)" : "");
+    printf("  ");
+    print_folded(s.text);
 }
 
 void explain_pages(const struct case_file *c, uint64_t lines)

@@ -73,17 +73,19 @@ static int change_page(struct changes *t, uint32_t number, struct message *m)
     struct place at = {IN_FRAMES, found.page_place};
     uint8_t bytes[ENTRY_BYTES];
     char name[MOST_PAGE_NAME];
+    unsigned other;
 
     if (!found.page_read)
         return out_of_reach(t, number, &found, m);
+    other = t->f->owners[found.page_place];
     p->entry |= found.entry & p->kept;
     page_name(t->f, t->before.is_guest, number, name);
     if (enters_tables(t, p->entry, &found))
         return wrong(m, "the %s would be in frame %lu, which holds entries of the host's tables; use another frame", name,
                      (unsigned long)(p->entry & BLOCK) / FRAME_BYTES);
-    if (t->f->owners[found.page_place] != 0)
-        return wrong(m, "the %s has its entry, at X'%lX', in common with a page of line %u; add %s, which gives each page its own",
-                     name, (unsigned long)found.page_place, t->f->owners[found.page_place], new_tables_line(t));
+    if (other != 0)
+        return wrong(m, "the %s has its entry, at X'%lX', in common with a page of line %u; add %s, which gives each page its "
+                     "own, or change the word with \"at frame\"", name, (unsigned long)at.address, other, new_tables_line(t));
     put_number(bytes, ENTRY_BYTES, p->entry);
     return put_contents(t->f, p->line, at, bytes, ENTRY_BYTES, m);
 }
@@ -144,7 +146,7 @@ static void check_others(struct changes *t)
             continue;
         page_name(t->f, t->before.is_guest, number, name);
         wrong(&m, "this would change the way to the %s too, since the tables use one word for both; add %s, which gives each "
-              "page its own entry", name, new_tables_line(t));
+              "page its own entry, or change the word with \"at frame\"", name, new_tables_line(t));
         note_fault(t->f, changed_by(t, &was), &m);
     }
 }

@@ -209,11 +209,13 @@ static void check_places(struct text_form *f)
     struct message m;
 
     if (guest != 0 && f->host_line == 0) {
-        wrong(&m, "the host's tables for this map have no place; add \"host tables at frame NUMBER\"");
+        wrong(&m, "the host's tables for this map have no place; add \"host tables at frame NUMBER\", or "
+              "name a case file whose tables are changed: --from CASE");
         note_fault(f, guest, &m);
     }
     if (virtual != 0 && f->guest_line == 0) {
-        wrong(&m, "the guest's tables for this map have no place; add \"guest tables at real ADDRESS\"");
+        wrong(&m, "the guest's tables for this map have no place; add \"guest tables at real ADDRESS\", "
+              "or name a case file whose tables are changed: --from CASE");
         note_fault(f, virtual, &m);
     }
 }

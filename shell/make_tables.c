@@ -111,9 +111,9 @@ static int check_room(const struct new_tables *t, unsigned segments)
     if (size <= room)
         return 0;
     return wrong(t->m, "the host tables need %llu bytes%s, and from frame %llu to the last one, frame %u, there are %llu; put "
-                 "them in an earlier frame, or map fewer or lower pages", ull(size),
-                 t->f->from_file ? ", with all pages of the old ones" : "", ull(t->start.address / FRAME_BYTES),
-                 t->f->c.frames - 1, ull(room));
+                 "them in an earlier frame, or %s", ull(size), t->f->from_file ? ", with all pages of the old ones" : "",
+                 ull(t->start.address / FRAME_BYTES), t->f->c.frames - 1, ull(room),
+                 t->f->from_file ? "change the old ones with \"at frame\"" : "map fewer or lower pages");
 }
 
 /* Puts all tables; the designation of the segment table goes to *designation. */
