@@ -155,7 +155,7 @@ static struct said say_range(const struct view *v, const struct range *r)
         say(&s, "%s", count > 1 ? "all in " : "");
         say_frame(&s, v, r);
     } else
-        say(&s, "%s: host fault %02x hex, %s", r->p.valid ? "valid in a frame beyond the storage" : "not valid", r->p.code,
+        say(&s, "%s: host fault %02x hex, %s", r->p.valid ? "valid, frame beyond the storage" : "not valid", r->p.code,
             program_words(r->p.code));
     return s;
 }

@@ -49,8 +49,8 @@ static int out_of_reach(const struct changes *t, uint32_t number, const struct h
 
     page_name(t->f, t->before.is_guest, number, name);
     say_reason(&t->before, p, reason);
-    return wrong(m, "the %s has no entry that could be changed: %s; add %s, which makes tables with this page and all that these "
-                 "have", name, reason, new_tables_line(t));
+    return wrong(m, "the %s has no entry that could be changed: %s; add %s, which makes tables with this page and all that "
+                 "these have", name, reason, new_tables_line(t));
 }
 
 /* ---- one entry ---- */

@@ -146,8 +146,8 @@ static int mapped_in_tables(const struct new_tables *t, uint32_t number)
     if (p->line == t->line)
         return wrong(t->m, "the %s is in frame %llu by the old tables, and the host tables would be there; put them in another "
                      "frame", name, ull(frame));
-    return wrong(t->m, "the %s of line %u is in frame %llu, where the host tables are; use another frame (or put tables of your "
-                 "own with \"at frame\")", name, p->line, ull(frame));
+    return wrong(t->m, "the %s of line %u is in frame %llu, where the host tables are; use another frame (or put tables of "
+                 "your own with \"at frame\")", name, p->line, ull(frame));
 }
 
 /* No page may be in a frame that holds the host's tables. */

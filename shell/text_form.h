@@ -1,9 +1,9 @@
 /*
  * The text form of a case file, as `make` takes it apart. First every line is sorted by its kind, and the labels get their
  * addresses (make_lines.c); then settings (make_settings.c), page maps (make_maps.c), their tables (new ones in make_tables.c,
- * entries of those that are there in make_changes.c) and contents (make_contents.c) are worked out, so that no line has to stand
- * before another one, but for contents, which follow their `at`. Tables and contents go into storage through the page maps
- * (make_storage.c).
+ * entries of those that are there in make_changes.c) and contents (make_contents.c) are worked out, so that no line has to
+ * stand before another one, but for contents, which follow their `at`. Tables and contents go into storage through the page
+ * maps (make_storage.c).
  */
 #ifndef TEXT_FORM_H
 #define TEXT_FORM_H
@@ -60,8 +60,9 @@ struct line {
     size_t label_length;
 };
 
-/* The entry of one page in a table, and the line that gives it; line 0 is none. The bits in `kept` are those of the entry that is
-   there already, and the others are as the line says. A page that is carried over from old tables has the line of the new ones. */
+/* The entry of one page in a table, and the line that gives it; line 0 is none. The bits in `kept` are those of the entry that
+   is there already, and the others are as the line says. A page that is carried over from old tables has the line of the new
+   ones. */
 struct page {
     uint32_t entry, kept;
     unsigned line;

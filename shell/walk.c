@@ -38,8 +38,8 @@ uint64_t absolute_of(uint32_t prefix, uint64_t real)
     return block == prefix ? real & 0xfff : real;
 }
 
-/* Where a word of the tables stands in storage. Returns 0, or -1 if it is beyond the storage, or, of the guest's tables, beyond the
-   extent or in a page that the host does not have. It is on a word boundary, so it does not cross an end. */
+/* Where a word of the tables stands in storage. Returns 0, or -1 if it is beyond the storage, or, of the guest's tables, beyond
+   the extent or in a page that the host does not have. It is on a word boundary, so it does not cross an end. */
 static int place_of(const struct tables *t, uint32_t at, uint32_t *place)
 {
     uint64_t host = t->origin + absolute_of(t->prefix, at);
@@ -125,5 +125,7 @@ struct host_page walk(const struct case_file *c, uint32_t address)
 
 unsigned entry_frames(const struct host_page *p)
 {
-    return (p->segment_read ? 1u << p->segment_place / FRAME_BYTES : 0) | (p->page_read ? 1u << p->page_place / FRAME_BYTES : 0);
+    unsigned of_segment = p->segment_read ? 1u << p->segment_place / FRAME_BYTES : 0;
+
+    return p->page_read ? of_segment | 1u << p->page_place / FRAME_BYTES : of_segment;
 }

@@ -24,7 +24,7 @@ struct tables {
 
 /* What the walk finds. */
 struct host_page {
-    unsigned code;          /* 0, or the program code: 10, 11, 12 hex, or 5 for an entry or a frame of the host that is not there */
+    unsigned code;          /* 0, or the program code: 10, 11, 12 hex, or 5 for an entry or a host frame beyond the end */
     int valid;              /* the page is valid by document 01; its frame may be beyond the storage */
     int is_protected;       /* page entry bit 22; for a valid page */
     uint32_t frame;         /* number of the frame, or of the guest's real page, that a valid page's entry names */

@@ -1,6 +1,6 @@
 #!/usr/bin/env python3
-"""fuzz.py COMMAND FOLDER COUNT [SEED]: COUNT damaged texts through `make`, half of them with `--from` and a damaged case file; COUNT
-damaged case files through `explain` and `run`.
+"""fuzz.py COMMAND FOLDER COUNT [SEED]: COUNT damaged texts through `make`, half of them with `--from` and a damaged case file;
+COUNT damaged case files through `explain` and `run`.
 
 Each call must end by itself within a second of CPU time, by no signal, with exit status 0, 1 or 2, and with a message on
 standard error if that is not 0. A file is left by make only with status 0, and is then a case file. Prints the seed, each

@@ -1,6 +1,7 @@
 #!/bin/sh
 # Tests of the assembler, of `drevokas make` (with and without --from) and of the example guests, and a memory check of make if
-# valgrind is there. Fails if anything fails. The command is target/bin/drevokas, or $DREVOKAS, seen from the root of the repository.
+# valgrind is there. Fails if anything fails. The command is target/bin/drevokas, or $DREVOKAS, seen from the root of the
+# repository.
 set -eu
 cd "$(dirname "$0")/../.."
 CC=${CC:-gcc}

@@ -71,7 +71,7 @@ def test_fields():
                f"{name} = {value}: {c.record[at:at + len(wanted) // 2].hex()}")
     for name in ("gr0.bit21", "gr0.bit021", "gr0.bit" + "0" * 32 + "21", "GR0.BIT" + "0" * 200 + "21"):
         c = made(f"{name} = 1", what=name)
-        expect(c.record[136:140].hex() == "00000400" and c.record[72:136] == bytes(64), f"{name} = 1: {c.record[136:140].hex()}")
+        expect(c.record[72:140].hex() == "0" * 128 + "00000400", f"{name} = 1: {c.record[72:140].hex()}")
     for value in ("2FF0", "0x2FF0", "X'2FF0'", "X'2FE8'+8", "start", "start+0", "12272+0"):
         c = made(f"psw.address = {value}\n" + MAP + "at guest 2FF0\nstart half 1\n", what=value)
         expect(c.record[16:24].hex() == "0008000080002ff0", f"psw.address = {value}: {c.record[16:24].hex()}")
@@ -211,7 +211,7 @@ def test_from():
         expect(c.frames == 8 and c.keys.hex() == "0000001000000001" and c.storage[6 * FRAME:] == bytes(2 * FRAME),
                "--from with more frames")
         status, out, err = call("make", "-", "--from", old, text=b"# nothing\n")
-        expect(status == 2 and out == b"" and "the text says nothing, so it changes nothing" in err, f"--from and nothing: {err}")
+        expect(status == 2 and out == b"" and "the text says nothing, so it changes nothing" in err, f"--from, no line: {err}")
         status, _, err = call("make", "-", "--from", "/dev/null", text=b"")
         expect(status == 1 and "not a case file" in err, f"--from no case file: {err}")
         status, _, err = call("make", "-", "--from", os.path.join(folder, "none"), text=b"")

@@ -1,5 +1,5 @@
-"""What the tests of `drevokas make` have in common: calls of the command, which is the first argument, case files taken apart, and
-the count of tests."""
+"""What the tests of `drevokas make` have in common: calls of the command, which is the first argument, case files taken apart,
+and the count of tests."""
 import os
 import struct
 import subprocess
