@@ -2,7 +2,6 @@
 #include <stdio.h>
 
 #include "../include/drevokas.h"
-#include "fields.h"
 #include "text_form.h"
 
 #define MOST_REASON 120

@@ -2,7 +2,6 @@
 #include <string.h>
 
 #include "assembler.h"
-#include "fields.h"
 #include "text_form.h"
 
 #define MOST_CONTENT (4 * MOST_LINE_LENGTH)    /* the shortest text for its bytes: "1," for a doubleword */

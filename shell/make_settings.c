@@ -2,7 +2,6 @@
 #include <stdio.h>
 #include <string.h>
 
-#include "fields.h"
 #include "text_form.h"
 
 #define MOST_NAME (MOST_LINE_LENGTH + 1)
@@ -36,7 +35,7 @@ static const char *split_setting(const char *text, char name[MOST_NAME])
     return skip_blanks(text + length) + 1;
 }
 
-/* The field or part of this name is an address. */
+/* Whether the field or part of this name is an address. */
 static int is_address(const char *name)
 {
     return strcmp(name, "prefix") == 0 || strcmp(name, "address") == 0;
@@ -209,6 +208,17 @@ static int apply_field(struct text_form *f, const struct field *field, const cha
         return -1;
     put_field(f->c.record, field, n);
     return 0;
+}
+
+uint64_t given_bits(const struct text_form *f, const struct field *field)
+{
+    const unsigned *lines = f->bit_lines + 8 * field->at;
+    uint64_t given = 0;
+    unsigned i;
+
+    for (i = 0; i < 8 * field->bytes; i++)
+        given = given << 1 | (lines[i] != 0);
+    return given;
 }
 
 /* Takes the bits of a part for a line, unless another line has one of them. */

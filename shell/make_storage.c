@@ -1,5 +1,4 @@
 /* The way of contents into storage: by the guest's tables, the prefix and the host's tables, as the page maps give them. */
-#include "fields.h"
 #include "text_form.h"
 
 uint64_t record_number(const struct text_form *f, const char *name)

@@ -1,7 +1,6 @@
 /* The host's and the guest's tables, made of the page maps and of the tables that were there. */
 #include <stdio.h>
 
-#include "fields.h"
 #include "text_form.h"
 
 #define SEGMENTS 2048u
@@ -183,13 +182,13 @@ static int put_host_tables(struct text_form *f, struct message *m)
     return 0;
 }
 
-/* Sets CR1 unless a line does, and CR0 bits 8-12 if they are zero. */
+/* Sets CR1, but for what lines set of it, and CR0 bits 8-12 if they are zero. */
 static int put_guest_tables(struct text_form *f, struct message *m)
 {
     struct new_tables t = {f, f->virtual_pages, f->guest_line, f->guest_tables, f->guest_tables, m};
     const struct field *cr1 = find_field("cr1");
     struct tables old = tables_of_guest(&f->old);
-    uint64_t cr0 = record_number(f, "cr0");
+    uint64_t cr0 = record_number(f, "cr0"), given = given_bits(f, cr1);
     uint32_t designation;
 
     if (f->from_file && has_guest_tables(&f->old))
@@ -197,7 +196,7 @@ static int put_guest_tables(struct text_form *f, struct message *m)
     if (put_all(&t, &designation))
         return -1;
     if (f->field_lines[cr1->at] == 0)
-        put_field(f->c.record, cr1, designation);
+        put_field(f->c.record, cr1, (designation & ~given) | (record_number(f, "cr1") & given));
     if ((cr0 & CR0_FORMAT) == 0)
         put_field(f->c.record, find_field("cr0"), cr0 | CR0_FORMAT_XA);
     return 0;

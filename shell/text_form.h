@@ -10,6 +10,7 @@
 
 #include "case_file.h"
 #include "expression.h"
+#include "fields.h"
 #include "walk.h"
 
 #define MOST_TEXT_BYTES (1u << 20)
@@ -113,6 +114,9 @@ void sort_lines(struct text_form *f);
 
 /* Sets what the settings and the key lines say. */
 void apply_settings(struct text_form *f);
+
+/* A one for each bit of a field that a line sets as a part of it. */
+uint64_t given_bits(const struct text_form *f, const struct field *field);
 
 /* Takes the parts of a PSW as "dat=1, address=start" and sets them in a PSW that has bits 12 and 32 one. Returns 0, or -1 with a
    message. */

@@ -123,6 +123,8 @@ def test_guest_tables():
     expect(c.words(at + 128, 16) == ["00000400"] * 7 + ["00003000"] + ["00000400"] * 8, "second guest page table")
     c = made(text + "cr0 = X'00080400'\ncr1 = X'123'")
     expect(c.record[72:80].hex() == "0008040000000123", "CR0 and CR1 that are written")
+    c = made(text + "cr1.bit0 = 1\ncr1.bit24 = 1")
+    expect(c.record[76:80].hex() == "80000080", "bits of CR1 that are written")
     c = made(text + "cr0 = X'00000400'\n")
     expect(c.record[72:76].hex() == "00b00400", "CR0 without its format")
 
