@@ -257,21 +257,77 @@ int parse_expression(const char **at, const struct labels *labels, struct value 
     return 0;
 }
 
-int parse_count(const char **at, const char *what, uint64_t most, uint64_t *count, struct message *m)
+/* ---- numbers that stand alone ---- */
+
+/* Whether digits start there that have no mark of their base. */
+static int is_unmarked(const char *at)
 {
-    struct value v;
+    return is_digit(*at) && !(*at == '0' && (at[1] == 'x' || at[1] == 'X'));
+}
+
+/* An address in hex digits without a mark, if they can be read in one way only. */
+static int parse_unmarked(const char **at, uint64_t *n, struct message *m)
+{
+    const char *start = *at, *digits = start;
+    uint64_t decimal;
+
+    if (parse_digits(at, 16, n, m))
+        return -1;
+    if (is_name_part(**at) || **at == '\'')
+        return wrong(m, "%.*s is not an address; write 0FFF, X'FFF' or 0xFFF", shown(start), start);
+    if (parse_digits(&digits, 10, &decimal, m))
+        return -1;
+    if (digits != *at || decimal == *n)
+        return 0;
+    return wrong(m, "%.*s is X'%llX' in decimal and X'%llX' in hex: write which", shown(start), start, ull(decimal), ull(*n));
+}
+
+int parse_address_expression(const char **at, const struct labels *labels, struct value *v, struct message *m)
+{
+    const char *end = skip_blanks(*at);
+
+    if (is_unmarked(end)) {
+        while (is_name_part(*end))
+            end++;
+        end = skip_blanks(end);
+        if (*end != '+' && *end != '-') {
+            *at = skip_blanks(*at);
+            v->negative = 0;
+            v->labels = 0;
+            return parse_unmarked(at, &v->magnitude, m);
+        }
+    }
+    return parse_expression(at, labels, v, m);
+}
+
+/* One number of at most `most`, which may be an address. */
+static int parse_alone(const char **at, const char *what, int is_address, uint64_t most, uint64_t *n, struct message *m)
+{
+    struct value v = {0, 0, 0};
 
     *at = skip_blanks(*at);
     if (**at == '-')
         return wrong(m, "%s must not be negative", what);
-    if (parse_term(at, NULL, &v, m))
+    if (is_address && is_name_start(**at) && (*at)[1] != '\'')
+        return wrong(m, "%.*s is not an address; write 0FFF, X'FFF' or 0xFFF", shown(*at), *at);
+    if (is_address && is_unmarked(*at) ? parse_unmarked(at, &v.magnitude, m) : parse_term(at, NULL, &v, m))
         return -1;
     if (v.magnitude > most)
         return wrong(m, "%s is %llu (X'%llX'), and may be at most %llu (X'%llX')", what, ull(v.magnitude),
                      ull(v.magnitude), ull(most), ull(most));
-    *count = v.magnitude;
+    *n = v.magnitude;
     *at = skip_blanks(*at);
     return 0;
+}
+
+int parse_count(const char **at, const char *what, uint64_t most, uint64_t *count, struct message *m)
+{
+    return parse_alone(at, what, 0, most, count, m);
+}
+
+int parse_address(const char **at, const char *what, uint64_t most, uint64_t *address, struct message *m)
+{
+    return parse_alone(at, what, 1, most, address, m);
 }
 
 int value_in_bits(const struct value *v, unsigned bits, uint64_t *number, struct message *m)

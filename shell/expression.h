@@ -1,7 +1,8 @@
 /*
  * Numbers and expressions of the text form. A number is decimal unless it is marked: X'1F' and 0x1F are hex, B'101' is binary. A
  * decimal number may be an amount of time, in us, ms or s, also with a fraction: it stands for clock units of 2^-12
- * microsecond. An expression is numbers and labels with + and - between them.
+ * microsecond. An expression is numbers and labels with + and - between them. An address may be hex without a mark, where it
+ * starts with a digit and has a letter; digits alone are taken only where they are the same in decimal and in hex.
  */
 #ifndef EXPRESSION_H
 #define EXPRESSION_H
@@ -55,6 +56,12 @@ int parse_expression(const char **at, const struct labels *labels, struct value 
 /* Reads one number of at most `most`, and moves past it and the blanks after it; what says what it is. Returns 0, or -1 with a
    message. */
 int parse_count(const char **at, const char *what, uint64_t most, uint64_t *count, struct message *m);
+
+/* The same for an address. */
+int parse_address(const char **at, const char *what, uint64_t most, uint64_t *address, struct message *m);
+
+/* Reads an expression that is an address; a number that is all of it is read as one. */
+int parse_address_expression(const char **at, const struct labels *labels, struct value *v, struct message *m);
 
 /* The number as `bits` bits, two's complement if it is negative. Returns 0, or -1 with a message if it does not fit. */
 int value_in_bits(const struct value *v, unsigned bits, uint64_t *number, struct message *m);

@@ -11,63 +11,68 @@
 #include "text_form.h"
 
 static const char help[] =
-    "Builds a case file from the text form in TEXT, or in standard input if TEXT is -. The case file goes to\n"
-    "OUT, or to standard output if that is no terminal. Nothing is written if the text has an error; each\n"
-    "error is reported as FILE:LINE: message.\n"
+    "Builds a case file from the text form in TEXT, where - is standard input. The case file goes to OUT,\n"
+    "or to standard output if that is no terminal. Nothing is written if the text has an error, or if it\n"
+    "says nothing.\n"
     "\n"
     "  -o OUT             where the case file goes\n"
-    "  --from CASE        starts from this case file: what the text does not say stays as it is there, and\n"
-    "                     \"at guest\" and \"at real\" go by the host's tables in it\n"
+    "  --from CASE        starts from this case file: what the text does not say stays as it is there\n"
     "\n"
-    "A line is a setting, a directive, or an instruction or data, perhaps with a label before it. # starts a\n"
-    "comment, and so does * where a line starts. Capital and small letters are the same. Numbers are decimal\n"
-    "unless marked: X'1F' and 0x1F are hex, B'101' is binary. 20us, 1.5ms and 2s are clock units (1/4096 us).\n"
-    "A value may be negative, and may be a sum with labels: start, end-start, table+8. Bit 0 is leftmost.\n"
+    "A line is a setting, a directive, or an instruction or data, perhaps with a label before it.\n"
+    "# starts a comment, and so does * where a line starts. Capital and small letters are the same.\n"
+    "Numbers are decimal unless marked: X'1F' and 0x1F are hex, B'101' is binary. 20us, 1.5ms and 2s are\n"
+    "clock units (1/4096 us). A value may be negative, and may be a sum with labels: start, end-start,\n"
+    "table+8. Bit 0 is leftmost.\n"
+    "An address (A, B, OFFSET, and the value of prefix, address and psw.address) may also be hex digits\n"
+    "that start with a digit and have a letter: 1F0. 10 and over without mark or letter, as 200, could\n"
+    "be decimal or hex, and are refused, but in a sum they are decimal.\n"
     "\n"
-    "Settings, in any order; what holds without them is in parentheses\n"
+    "Settings, in any order, each once; what holds without them is in parentheses\n"
     "  designation = N    host segment-table designation (that of \"host tables\", else 0)\n"
     "  clock = N          host clock (0)\n"
     "  time = N           time per unit (1us)\n"
     "  budget = N         units, 0 to 65535 (65535)\n"
     "  frames = N         frames of host storage, 1 to 8 (8)\n"
-    "  FIELD = N          a field of the record: length (200) version (1) interventions mode (8) interceptions\n"
-    "                     lctl prefix origin extent (1) psw timer comparator epoch svc svc1 svc2 svc3 code ilc\n"
-    "                     interruption address text reserved, cr0 to cr15, gr0 to gr15 (0 for the others)\n"
+    "  FIELD = N          a field of the record: length (200) version (1) interventions mode (8)\n"
+    "                     interceptions lctl prefix origin extent (1) psw timer comparator epoch svc svc1\n"
+    "                     svc2 svc3 code ilc interruption address text reserved, cr0-cr15, gr0-gr15 (0)\n"
     "  FIELD.bitN = N     one bit of a field: cr0.bit21 = 1\n"
-    "  psw.PART = N       a part of the PSW: per dat io external key check wait problem space cc mask address,\n"
-    "                     and amode, 24 or 31 (bit 12 is one, amode is 31, all else zero)\n"
+    "  psw.PART = N       a part of the PSW: per dat io external key check wait problem space cc mask\n"
+    "                     address, and amode, 24 or 31 (bit 12 is one, amode is 31, all else zero)\n"
     "  key F[-F] = N      storage keys of frames (0)\n"
     "\n"
     "Page maps, in any order; A is the first address of a page, B the last of that page or a later one\n"
-    "  host tables at frame F      makes the host's tables from frame F on, and the designation\n"
+    "  host tables at frame F     makes the host's tables from frame F on, and the designation\n"
     "  map guest A[-B] to frame F[-F] [protected|invalid]\n"
-    "                              guest absolute pages, for the host's tables\n"
-    "  map guest A[-B] invalid     pages without a frame\n"
-    "  guest tables at real A      makes the guest's tables from there on, CR1, and CR0 bits 8-12 if they are 0\n"
-    "  map virtual A[-B] to real R [protected|invalid]\n"
-    "                              guest virtual pages, for the guest's tables\n"
-    "  map virtual A[-B] invalid   pages without a real address\n"
+    "      guest absolute pages, for the host's tables\n"
+    "  map guest A[-B] invalid    pages without a frame\n"
+    "  guest tables at real A     makes the guest's tables there, CR1, and CR0 bits 8-12 if they are 0\n"
+    "  map virtual A[-B] to real A [protected|invalid]\n"
+    "      guest virtual pages, for the guest's tables\n"
+    "  map virtual A[-B] invalid  pages without a real address\n"
+    "With --from, \"map\" alone changes its page's entry in the tables that are there (\"invalid\" alone sets\n"
+    "its bit 21), and \"tables\" makes new tables, with every page entry of the old ones.\n"
     "\n"
     "Contents, in their order\n"
-    "  at guest A                  what follows goes to this guest absolute address,\n"
-    "  at real A                   or guest real address, by the prefix,\n"
-    "  at virtual A                or guest virtual address, by the guest's tables,\n"
-    "  at frame F [OFFSET]         or into a frame itself, where labels cannot be\n"
+    "  at guest A                 what follows goes to this guest absolute address,\n"
+    "  at real A                  or guest real address, by the prefix,\n"
+    "  at virtual A               or guest virtual address, by the guest's tables,\n"
+    "  at frame F [OFFSET]        or into a frame itself, where labels cannot be\n"
     "  [LABEL] INSTRUCTION OPERANDS\n"
-    "                              LR AR SR BCR SVC LA BC ST L LPSW STCTL LCTL STCK SPT STPT DIAG SIGP, and the\n"
-    "                              extended branches B BR NOP NOPR BE BNE BH BL BO BP BM BZ BER ...\n"
-    "  [LABEL] bytes X'0102 0304'  bytes in hex; also written DC\n"
-    "  [LABEL] half N,...          numbers of 2 bytes; word: 4 bytes; double: 8 bytes\n"
-    "  [LABEL] psw PART=N, ...     a PSW of 8 bytes: psw dat=1, address=start\n"
-    "  [LABEL] space N             N bytes of zeros\n"
-    "  align N                     goes on at the next multiple of N\n"
-    "  using LABEL,R               from here on, labels up to 4095 bytes after LABEL have base register R\n"
-    "  drop R                      no longer so\n"
-    "A storage operand is D, D(X,B), D(X) or D(,B), and D or D(B) where there is no index. D is a displacement,\n"
-    "or a label that is below 4096 or that a \"using\" reaches.\n"
+    "      LR AR SR BCR SVC LA BC ST L LPSW STCTL LCTL STCK SPT STPT DIAG SIGP, and the extended\n"
+    "      branches B BR NOP NOPR BE BNE BH BL BO BP BM BZ BER ...\n"
+    "  [LABEL] bytes X'0102 03'   bytes in hex; also written DC\n"
+    "  [LABEL] half N,...         numbers of 2 bytes; word: of 4; double: of 8\n"
+    "  [LABEL] psw PART=N, ...    a PSW of 8 bytes: psw dat=1, address=start\n"
+    "  [LABEL] space N            N bytes of zeros\n"
+    "  align N                    goes on at the next multiple of N\n"
+    "  using A,R                  from here on, labels from A to A+4095 have base register R\n"
+    "  drop R                     no longer so\n"
+    "A storage operand is D, D(X,B), D(X) or D(,B), and D or D(B) where there is no index. D is a\n"
+    "displacement, or a label that is below 4096 or that a \"using\" reaches.\n"
     "\n"
-    "Exit status: 0, 1 if CASE is not a case file, 2 for bad usage, an error in the text, or a file that cannot\n"
-    "be read or written.\n";
+    "Exit status: 0, 1 if CASE is not a case file, 2 for bad usage, an error in the text, or a file that\n"
+    "cannot be read or written.\n";
 
 static const struct usage usage = {"make TEXT [--from CASE] [-o OUT]", help, 1, {"-o", "--from"}};
 
@@ -115,7 +120,19 @@ static int report(struct text_form *f, const char *name)
 
 /* ---- the text and its lines ---- */
 
-/* Reads all of a text, which ends with a zero byte; NULL after a complaint. */
+/* Takes the byte order mark of UTF-8 off the start of a text. */
+static void drop_mark(char *text, size_t *length)
+{
+    static const char mark[] = "\xef\xbb\xbf";
+    size_t size = sizeof mark - 1;
+
+    if (*length < size || memcmp(text, mark, size) != 0)
+        return;
+    *length -= size;
+    memmove(text, text + size, *length + 1);
+}
+
+/* Reads all of a text, which ends with a zero byte, without a byte order mark; NULL after a complaint. */
 static char *read_text(FILE *in, const char *name, size_t *length)
 {
     char *text = malloc(MOST_TEXT_BYTES + 1);
@@ -128,6 +145,7 @@ static char *read_text(FILE *in, const char *name, size_t *length)
     *length = fread(text, 1, MOST_TEXT_BYTES + 1, in);
     if (!ferror(in) && *length <= MOST_TEXT_BYTES) {
         text[*length] = '\0';
+        drop_mark(text, length);
         return text;
     }
     if (ferror(in))
@@ -220,7 +238,8 @@ static struct text_form *new_form(unsigned lines)
         return NULL;
     f->count = lines;
     f->lines = calloc(lines + 1, sizeof *f->lines);
-    f->guest_pages = calloc(PAGES, sizeof *f->guest_pages);
+    f->labels = calloc(lines + 1, sizeof *f->labels);
+    f->host_pages = calloc(PAGES, sizeof *f->host_pages);
     f->virtual_pages = calloc(PAGES, sizeof *f->virtual_pages);
     return f;
 }
@@ -230,7 +249,8 @@ static void release(struct text_form *f)
     if (f == NULL)
         return;
     free(f->lines);
-    free(f->guest_pages);
+    free(f->labels);
+    free(f->host_pages);
     free(f->virtual_pages);
     free(f);
 }
@@ -242,9 +262,24 @@ struct text {
     const char *name;
 };
 
+/* Whether a line says anything. */
+static int says_something(const struct text_form *f)
+{
+    unsigned i = 0;
+
+    while (i < f->count && *f->lines[i].text == '\0')
+        i++;
+    return i < f->count;
+}
+
 static int make(struct text_form *f, const struct text *t, const char *out)
 {
     cut_lines(f, t->bytes, t->length);
+    if (f->fault_count == 0 && !says_something(f)) {
+        complain("%s: the text says nothing%s; no case file is written", t->name,
+                 f->from_file ? ", so it changes nothing" : ": it has no line but blank ones and comments");
+        return STATUS_BAD;
+    }
     sort_lines(f);
     apply_settings(f);
     apply_maps(f);
@@ -266,12 +301,13 @@ static int make_from(const struct text *t, const char *from, const char *out)
         return STATUS_BAD;
     }
     f = new_form(lines);
-    if (f == NULL || f->lines == NULL || f->guest_pages == NULL || f->virtual_pages == NULL) {
+    if (f == NULL || f->lines == NULL || f->labels == NULL || f->host_pages == NULL || f->virtual_pages == NULL) {
         complain("%s: no memory is left", t->name);
         status = STATUS_BAD;
     } else if (from != NULL) {
         f->from_file = 1;
-        status = load(from, &f->c);
+        status = load(from, &f->old);
+        f->c = f->old;
     }
     if (status == GO_ON)
         status = make(f, t, out);

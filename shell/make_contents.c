@@ -2,7 +2,6 @@
 #include <string.h>
 
 #include "assembler.h"
-#include "fields.h"
 #include "text_form.h"
 
 #define MOST_CONTENT (4 * MOST_LINE_LENGTH)    /* the shortest text for its bytes: "1," for a doubleword */
@@ -156,10 +155,11 @@ static int parse_using(struct text_form *f, const char *at, struct message *m)
     uint64_t r;
 
     take_word(&at, "using");
-    if (parse_expression(&at, &labels, &v, m))
+    if (parse_address_expression(&at, &labels, &v, m))
         return -1;
     if (v.negative || v.magnitude >= ADDRESS_LIMIT)
         return wrong(m, "the address is not 0 to X'7FFFFFFF'; write \"using LABEL,12\"");
+    at = skip_blanks(at);
     if (*at != ',')
         return wrong(m, "the register is missing; write \"using LABEL,12\"");
     at++;

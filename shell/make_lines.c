@@ -1,4 +1,5 @@
 /* The lines of the text form by their kinds, the places of contents, and the labels. */
+#include <stdlib.h>
 #include <string.h>
 #include <strings.h>
 
@@ -18,52 +19,60 @@ int take_word(const char **at, const char *word)
 
 /* ---- labels ---- */
 
-static unsigned bucket_of(const char *name, size_t length)
+/* The order of two labels by their letters, capital or not. */
+static int by_letters(const struct line *a, const struct line *b)
 {
-    unsigned sum = 0;
-    size_t i;
+    size_t shorter = a->label_length < b->label_length ? a->label_length : b->label_length;
+    int order = strncasecmp(a->label, b->label, shorter);
 
-    for (i = 0; i < length; i++)
-        sum = sum * 31 + (unsigned char)(name[i] & ~0x20);
-    return sum % BUCKETS;
+    return order != 0 ? order : (a->label_length > b->label_length) - (a->label_length < b->label_length);
 }
 
-/* The line of a label, counted from 1, or 0. */
-static unsigned find_label(const struct text_form *f, const char *name, size_t length)
+/* The same for qsort; labels that are the same are in the order of their lines. */
+static int compare_labels(const void *a, const void *b)
 {
-    unsigned n = f->buckets[bucket_of(name, length)];
+    const struct line *first = *(const struct line *const *)a, *second = *(const struct line *const *)b;
+    int order = by_letters(first, second);
 
-    while (n != 0) {
-        const struct line *l = &f->lines[n - 1];
-
-        if (l->label_length == length && strncasecmp(l->label, name, length) == 0)
-            return n;
-        n = l->next;
-    }
-    return 0;
+    return order != 0 ? order : (first > second) - (first < second);
 }
 
-unsigned define_label(struct text_form *f, unsigned line)
+/* The same for bsearch. */
+static int compare_name(const void *key, const void *element)
 {
-    struct line *l = &f->lines[line - 1];
-    unsigned *bucket = &f->buckets[bucket_of(l->label, l->label_length)];
-    unsigned other = find_label(f, l->label, l->label_length);
+    return by_letters(key, *(const struct line *const *)element);
+}
 
-    if (other == 0) {
-        l->next = *bucket;
-        *bucket = line;
+/* Sorts the labels; of those that are there twice, the later is a fault. */
+static void sort_labels(struct text_form *f)
+{
+    struct message m;
+    unsigned i;
+
+    qsort(f->labels, f->label_count, sizeof *f->labels, compare_labels);
+    for (i = 1; i < f->label_count && !enough_faults(f); i++) {
+        const struct line *l = f->labels[i], *before = f->labels[i - 1];
+
+        if (by_letters(l, before) != 0)
+            continue;
+        wrong(&m, "the label %.*s is in line %u already; give it another name", (int)l->label_length, l->label,
+              (unsigned)(before - f->lines) + 1);
+        note_fault(f, (unsigned)(l - f->lines) + 1, &m);
     }
-    return other;
 }
 
 static int find_address(void *book, const char *name, size_t length, uint64_t *address)
 {
     const struct text_form *f = book;
-    unsigned n = find_label(f, name, length);
+    struct line key = {0};
+    const struct line *const *found;
 
-    if (n == 0)
+    key.label = name;
+    key.label_length = length;
+    found = bsearch(&key, f->labels, f->label_count, sizeof *f->labels, compare_name);
+    if (found == NULL)
         return -1;
-    *address = f->lines[n - 1].place.address;
+    *address = (*found)->place.address;
     return 0;
 }
 
@@ -116,7 +125,7 @@ static int parse_at(const char *at, struct place *here, struct message *m)
         here->space = IN_FRAMES;
         if (parse_count(&at, "the frame", MOST_FRAMES - 1, &frame, m))
             return -1;
-        if (*at != '\0' && parse_count(&at, "the offset", FRAME_BYTES - 1, &offset, m))
+        if (*at != '\0' && parse_address(&at, "the offset", FRAME_BYTES - 1, &offset, m))
             return -1;
         here->address = frame * FRAME_BYTES + offset;
         return nothing_left(at, m);
@@ -130,7 +139,7 @@ static int parse_at(const char *at, struct place *here, struct message *m)
     else
         return wrong(m, "the place is missing; write \"at guest X'200'\", \"at real ...\", \"at virtual ...\" or \"at frame "
                      "3 X'200'\"");
-    if (parse_count(&at, "the address", ADDRESS_LIMIT - 1, &here->address, m))
+    if (parse_address(&at, "the address", ADDRESS_LIMIT - 1, &here->address, m))
         return -1;
     return nothing_left(at, m);
 }
@@ -165,14 +174,11 @@ static int check_label(const struct line *l, const struct place *here, struct me
 static int take_label(struct text_form *f, unsigned line, const struct place *here, struct message *m)
 {
     struct line *l = &f->lines[line - 1];
-    unsigned other;
 
     l->place = *here;
     if (check_label(l, here, m))
         return -1;
-    other = define_label(f, line);
-    if (other != 0)
-        return wrong(m, "the label %.*s is in line %u already; give it another name", (int)l->label_length, l->label, other);
+    f->labels[f->label_count++] = l;
     return 0;
 }
 
@@ -267,4 +273,5 @@ void sort_lines(struct text_form *f)
             if (here.space == NO_SPACE)
                 here.space = IN_GUEST;
         }
+    sort_labels(f);
 }

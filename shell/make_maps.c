@@ -2,6 +2,7 @@
 #include "text_form.h"
 
 #define MAP_GUEST "\"map guest X'0'-X'2FFF' to frame 3 [protected|invalid]\" or \"map guest X'3000' invalid\""
+#define PAGE_IGNORED 0xffu      /* bits 24-31 of a page entry */
 #define MAP_VIRTUAL "\"map virtual X'5000'-X'5FFF' to real X'1000' [protected|invalid]\" or \"map virtual X'6000' invalid\""
 
 /* host tables at frame NUMBER */
@@ -30,7 +31,7 @@ static int parse_guest_tables(struct text_form *f, unsigned line, struct message
 
     if (!take_word(&at, "guest") || !take_word(&at, "tables") || !take_word(&at, "at") || !take_word(&at, "real"))
         return wrong(m, "write \"guest tables at real ADDRESS\"");
-    if (parse_count(&at, "the address", ADDRESS_LIMIT - 1, &address, m) || nothing_left(at, m))
+    if (parse_address(&at, "the address", ADDRESS_LIMIT - 1, &address, m) || nothing_left(at, m))
         return -1;
     if (address % FRAME_BYTES != 0)
         return wrong(m, "the address X'%llX' (decimal %llu) is not a multiple of X'1000' (4096), as a segment table's must be",
@@ -48,13 +49,14 @@ struct range {
     uint32_t first, count;
     uint32_t target, step;      /* the first entry's address, and how much each further one adds */
     uint32_t flags;
+    uint32_t kept;              /* the bits that stay as they are in an entry that is there */
 };
 
 static int parse_range(const char **at, struct range *r, struct message *m)
 {
     uint64_t first, last;
 
-    if (parse_count(at, "the address", ADDRESS_LIMIT - 1, &first, m))
+    if (parse_address(at, "the address", ADDRESS_LIMIT - 1, &first, m))
         return -1;
     if (first % FRAME_BYTES != 0)
         return wrong(m, "the address X'%llX' (decimal %llu) is not the first of a page; those are multiples of X'1000' (4096)",
@@ -62,7 +64,7 @@ static int parse_range(const char **at, struct range *r, struct message *m)
     last = first + FRAME_BYTES - 1;
     if (**at == '-') {
         ++*at;
-        if (parse_count(at, "the last address", ADDRESS_LIMIT - 1, &last, m))
+        if (parse_address(at, "the last address", ADDRESS_LIMIT - 1, &last, m))
             return -1;
     }
     if (last < first || (last + 1) % FRAME_BYTES != 0)
@@ -109,7 +111,7 @@ static int parse_real(const char **at, struct range *r, struct message *m)
 {
     uint64_t first;
 
-    if (parse_count(at, "the real address", ADDRESS_LIMIT - 1, &first, m))
+    if (parse_address(at, "the real address", ADDRESS_LIMIT - 1, &first, m))
         return -1;
     if (first % FRAME_BYTES != 0)
         return wrong(m, "the real address X'%llX' (decimal %llu) is not the first of a page; those are multiples of X'1000' "
@@ -132,6 +134,7 @@ static int fill_pages(struct page *pages, unsigned line, const struct range *r, 
                          ull((uint64_t)(r->first + i) * FRAME_BYTES), p->line);
         p->line = line;
         p->entry = (r->target + i * r->step) | r->flags;
+        p->kept = r->kept;
     }
     return 0;
 }
@@ -141,11 +144,13 @@ static int parse_target(const struct text_form *f, const char *at, int is_guest,
 {
     const char *space = is_guest ? "frame" : "real", *form = is_guest ? MAP_GUEST : MAP_VIRTUAL;
 
+    r->kept = ~0u;
     if (!take_word(&at, "to")) {
         if (parse_flags(at, &r->flags, m) || r->flags != PAGE_INVALID)
             return wrong(m, "where the page goes is missing; write %s", form);
         return 0;
     }
+    r->kept = PAGE_IGNORED;
     if (!take_word(&at, space))
         return wrong(m, "\"%s\" is missing after \"to\"; write %s", space, form);
     if (is_guest ? parse_frames(f, &at, r, m) : parse_real(&at, r, m))
@@ -158,7 +163,8 @@ static int parse_target(const struct text_form *f, const char *at, int is_guest,
 static int parse_map(struct text_form *f, unsigned line, struct message *m)
 {
     const char *at = f->lines[line - 1].text;
-    struct range r = {0, 0, 0, 0, 0};
+    struct range r = {0, 0, 0, 0, 0, 0};
+    uint64_t first = first_host_page(f);
     int is_guest;
 
     take_word(&at, "map");
@@ -167,9 +173,19 @@ static int parse_map(struct text_form *f, unsigned line, struct message *m)
         return wrong(m, "\"guest\" or \"virtual\" is missing; write " MAP_GUEST ", or \"map virtual ... to real ...\"");
     if (parse_range(&at, &r, m) || parse_target(f, at, is_guest, &r, m))
         return -1;
-    if (is_guest && r.first + r.count + record_number(f, "origin") * BLOCK_PAGES > PAGES)
+    if (is_guest && r.first + r.count + first > PAGES)
         return wrong(m, "the origin and this guest address together are not below X'80000000'; make one of them smaller");
-    return fill_pages(is_guest ? f->guest_pages : f->virtual_pages, line, &r, m);
+    return fill_pages(is_guest ? f->host_pages + first : f->virtual_pages, line, &r, m);
+}
+
+unsigned first_line(const struct page *pages)
+{
+    unsigned i, line = 0;
+
+    for (i = 0; i < PAGES; i++)
+        if (pages[i].line != 0 && (line == 0 || pages[i].line < line))
+            line = pages[i].line;
+    return line;
 }
 
 static int parse_map_line(struct text_form *f, unsigned line, struct message *m)
@@ -186,29 +202,20 @@ static int parse_map_line(struct text_form *f, unsigned line, struct message *m)
     }
 }
 
-/* The first line of a map, or 0. */
-static unsigned first_line(const struct page *pages)
-{
-    unsigned i, line = 0;
-
-    for (i = 0; i < PAGES; i++)
-        if (pages[i].line != 0 && (line == 0 || pages[i].line < line))
-            line = pages[i].line;
-    return line;
-}
-
-/* A map needs a place for its tables. */
+/* A map needs a place for its tables, unless there are tables already. */
 static void check_places(struct text_form *f)
 {
-    unsigned guest = first_line(f->guest_pages), virtual = first_line(f->virtual_pages);
+    unsigned guest = first_line(f->host_pages), virtual = first_line(f->virtual_pages);
     struct message m;
 
     if (guest != 0 && f->host_line == 0) {
-        wrong(&m, "the host's tables for this map have no place; add \"host tables at frame NUMBER\"");
+        wrong(&m, "the host's tables for this map have no place; add \"host tables at frame NUMBER\", or "
+              "name a case file whose tables are changed: --from CASE");
         note_fault(f, guest, &m);
     }
     if (virtual != 0 && f->guest_line == 0) {
-        wrong(&m, "the guest's tables for this map have no place; add \"guest tables at real ADDRESS\"");
+        wrong(&m, "the guest's tables for this map have no place; add \"guest tables at real ADDRESS\", "
+              "or name a case file whose tables are changed: --from CASE");
         note_fault(f, virtual, &m);
     }
 }
@@ -221,6 +228,6 @@ void apply_maps(struct text_form *f)
     for (line = 1; line <= f->count && !enough_faults(f); line++)
         if (parse_map_line(f, line, &m))
             note_fault(f, line, &m);
-    if (f->fault_count == had)
+    if (f->fault_count == had && !f->from_file)
         check_places(f);
 }

@@ -2,10 +2,9 @@
 #include <stdio.h>
 #include <string.h>
 
-#include "fields.h"
 #include "text_form.h"
 
-#define MOST_NAME 40
+#define MOST_NAME (MOST_LINE_LENGTH + 1)
 #define BLANK_PSW UINT64_C(0x0008000080000000)     /* bit 12 and bit 32 (31-bit addresses) */
 #define PSW_BITS 64u
 
@@ -19,33 +18,43 @@ static const struct part {
     {"address", 33, 31},
 };
 
-/* Numbers of the case file beside the record. */
-enum number_kind { DESIGNATION, CLOCK, TIME, BUDGET, FRAMES };
-
+/* The numbers beside the record, by their kinds. */
 static const struct {
     const char *name;
     unsigned bits;
-} numbers[] = {{"designation", 32}, {"clock", 64}, {"time", 32}, {"budget", 16}, {"frames", 32}};
+} numbers[NUMBER_KINDS] = {{"designation", 32}, {"clock", 64}, {"time", 32}, {"budget", 16}, {"frames", 32}};
 
-#define NUMBERS_COUNT (sizeof numbers / sizeof *numbers)
-
-/* The setting's name in small letters; returns where the value starts. */
+/* The setting's name in small letters, which is no longer than a line; returns where the value starts. */
 static const char *split_setting(const char *text, char name[MOST_NAME])
 {
     size_t length = name_length(text), i;
 
-    for (i = 0; i < length && i < MOST_NAME - 1; i++)
+    for (i = 0; i < length; i++)
         name[i] = (char)(text[i] >= 'A' && text[i] <= 'Z' ? text[i] + ('a' - 'A') : text[i]);
     name[i] = '\0';
     return skip_blanks(text + length) + 1;
 }
 
-/* A value that ends its line, in so many bits. */
-static int parse_value(const char **at, const struct labels *labels, unsigned bits, uint64_t *n, struct message *m)
+/* Whether the field or part of this name is an address. */
+static int is_address(const char *name)
+{
+    return strcmp(name, "prefix") == 0 || strcmp(name, "address") == 0;
+}
+
+/* The value of what has this name, in so many bits. */
+static int parse_value(const char **at, const struct labels *labels, const char *name, unsigned bits, uint64_t *n,
+                       struct message *m)
 {
     struct value v;
 
-    return parse_expression(at, labels, &v, m) || value_in_bits(&v, bits, n, m) ? -1 : 0;
+    if (is_address(name) ? parse_address_expression(at, labels, &v, m) : parse_expression(at, labels, &v, m))
+        return -1;
+    return value_in_bits(&v, bits, n, m);
+}
+
+static int set_twice(unsigned line, struct message *m)
+{
+    return wrong(m, "this is set in line %u already; leave one of the lines out", line);
 }
 
 /* ---- bits and parts ---- */
@@ -56,19 +65,20 @@ static void set_bits(uint64_t *word, unsigned width, unsigned first, unsigned bi
     unsigned shift = width - first - bits;
     uint64_t ones = (UINT64_C(1) << bits) - 1;
 
-    *word = (*word & ~(ones << shift)) | n << shift;
+    *word = (*word & ~(ones << shift)) | (n & ones) << shift;
 }
 
-/* "bit21" in a word of `width` bits. Returns 0, or -1. */
+/* "bit21" in a word of `width` bits; the digits are decimal. Returns 0, or -1. */
 static int parse_bit_name(const char *name, unsigned width, unsigned *bit)
 {
     uint64_t n;
     struct message unused;
-    const char *at = name + 3;
+    const char *at;
 
-    if (strncmp(name, "bit", 3) != 0 || *at < '0' || *at > '9')
+    if (strncmp(name, "bit", 3) != 0)
         return -1;
-    if (parse_count(&at, "", width - 1, &n, &unused) || *at != '\0')
+    at = name + 3;
+    if (at[strspn(at, "0123456789")] != '\0' || parse_count(&at, "", width - 1, &n, &unused))
         return -1;
     *bit = (unsigned)n;
     return 0;
@@ -94,8 +104,8 @@ static int find_part(const char *name, int is_psw, unsigned width, struct part *
 static int parse_part(const char **at, const struct labels *labels, const struct part *part, uint64_t *n, struct message *m)
 {
     if (strcmp(part->name, "amode") != 0)
-        return parse_value(at, labels, part->bits, n, m);
-    if (parse_value(at, NULL, PSW_BITS, n, m))
+        return parse_value(at, labels, part->name, part->bits, n, m);
+    if (parse_value(at, NULL, part->name, PSW_BITS, n, m))
         return -1;
     if (*n != 24 && *n != 31)
         return wrong(m, "amode is 24 or 31, the bits of an address");
@@ -106,16 +116,16 @@ static int parse_part(const char **at, const struct labels *labels, const struct
 static int no_part(const char *field, const char *part, unsigned width, struct message *m)
 {
     if (strcmp(field, "psw") == 0)
-        return wrong(m, "the PSW has no part \"%s\"; parts are per dat io external key check wait problem space cc mask "
+        return wrong(m, "the PSW has no part \"%.40s\"; parts are per dat io external key check wait problem space cc mask "
                      "amode address, and bit0 to bit63", part);
-    return wrong(m, "the field %s has no part \"%s\"; its parts are bit0 to bit%u", field, part, width - 1);
+    return wrong(m, "the field %s has no part \"%.40s\"; its parts are bit0 to bit%u", field, part, width - 1);
 }
 
 int parse_psw(const char *at, const struct labels *labels, uint64_t *psw, struct message *m)
 {
     struct part part;
     char name[MOST_NAME];
-    uint64_t n;
+    uint64_t n, ones, given = 0;
 
     *psw = BLANK_PSW;
     at = skip_blanks(at);
@@ -129,6 +139,11 @@ int parse_psw(const char *at, const struct labels *labels, uint64_t *psw, struct
             return no_part("psw", name, PSW_BITS, m);
         if (parse_part(&at, labels, &part, &n, m))
             return -1;
+        ones = 0;
+        set_bits(&ones, PSW_BITS, part.first, part.bits, UINT64_MAX);
+        if (given & ones)
+            return wrong(m, "%.40s, or a bit of it, is given twice in this PSW; leave one out", name);
+        given |= ones;
         set_bits(psw, PSW_BITS, part.first, part.bits, n);
         if (*skip_blanks(at) != ',')
             return nothing_left(at, m);
@@ -138,24 +153,23 @@ int parse_psw(const char *at, const struct labels *labels, uint64_t *psw, struct
 
 /* ---- one setting ---- */
 
-static void set_number(struct text_form *f, enum number_kind kind, uint64_t n, unsigned line)
+static void set_number(struct case_file *c, unsigned kind, uint64_t n)
 {
     switch (kind) {
     case DESIGNATION:
-        f->c.designation = (uint32_t)n;
-        f->designation_line = line;
+        c->designation = (uint32_t)n;
         break;
     case CLOCK:
-        f->c.clock = n;
+        c->clock = n;
         break;
     case TIME:
-        f->c.time = (uint32_t)n;
+        c->time = (uint32_t)n;
         break;
     case BUDGET:
-        f->c.budget = (uint16_t)n;
+        c->budget = (uint16_t)n;
         break;
-    case FRAMES:
-        f->c.frames = (unsigned)n;
+    default:
+        c->frames = (unsigned)n;
         break;
     }
 }
@@ -164,18 +178,21 @@ static void set_number(struct text_form *f, enum number_kind kind, uint64_t n, u
 static int apply_number(struct text_form *f, const char *name, const char *at, unsigned line, struct message *m)
 {
     struct labels labels = labels_of(f);
+    unsigned i = 0;
     uint64_t n;
-    size_t i = 0;
 
-    while (i < NUMBERS_COUNT && strcmp(numbers[i].name, name) != 0)
+    while (i < NUMBER_KINDS && strcmp(numbers[i].name, name) != 0)
         i++;
-    if (i == NUMBERS_COUNT)
+    if (i == NUMBER_KINDS)
         return 0;
-    if (parse_value(&at, &labels, numbers[i].bits, &n, m) || nothing_left(at, m))
+    if (f->number_lines[i] != 0)
+        return set_twice(f->number_lines[i], m);
+    f->number_lines[i] = line;
+    if (parse_value(&at, &labels, name, numbers[i].bits, &n, m) || nothing_left(at, m))
         return -1;
     if (i == FRAMES && (n < 1 || n > MOST_FRAMES))
         return wrong(m, "a case file has 1 to %d frames; write \"frames = 8\" or fewer", MOST_FRAMES);
-    set_number(f, (enum number_kind)i, n, line);
+    set_number(&f->c, i, n);
     return 1;
 }
 
@@ -184,15 +201,41 @@ static int apply_field(struct text_form *f, const struct field *field, const cha
     struct labels labels = labels_of(f);
     uint64_t n;
 
-    if (parse_value(&at, &labels, 8 * field->bytes, &n, m) || nothing_left(at, m))
+    if (f->field_lines[field->at] != 0)
+        return set_twice(f->field_lines[field->at], m);
+    f->field_lines[field->at] = line;
+    if (parse_value(&at, &labels, field->name, 8 * field->bytes, &n, m) || nothing_left(at, m))
         return -1;
     put_field(f->c.record, field, n);
-    if (strcmp(field->name, "cr1") == 0)
-        f->cr1_line = line;
     return 0;
 }
 
-static int apply_part(struct text_form *f, const struct field *field, const char *name, const char *at, struct message *m)
+uint64_t given_bits(const struct text_form *f, const struct field *field)
+{
+    const unsigned *lines = f->bit_lines + 8 * field->at;
+    uint64_t given = 0;
+    unsigned i;
+
+    for (i = 0; i < 8 * field->bytes; i++)
+        given = given << 1 | (lines[i] != 0);
+    return given;
+}
+
+/* Takes the bits of a part for a line, unless another line has one of them. */
+static int take_bits(struct text_form *f, const struct field *field, const struct part *part, unsigned line, struct message *m)
+{
+    unsigned *lines = f->bit_lines + 8 * field->at, i;
+
+    for (i = part->first; i < part->first + part->bits; i++) {
+        if (lines[i] != 0)
+            return wrong(m, "bit %u of %s is set in line %u already; leave one of the lines out", i, field->name, lines[i]);
+        lines[i] = line;
+    }
+    return 0;
+}
+
+static int apply_part(struct text_form *f, const struct field *field, const char *name, const char *at, unsigned line,
+                      struct message *m)
 {
     struct labels labels = labels_of(f);
     unsigned width = 8 * field->bytes;
@@ -201,7 +244,7 @@ static int apply_part(struct text_form *f, const struct field *field, const char
 
     if (find_part(name, strcmp(field->name, "psw") == 0, width, &part))
         return no_part(field->name, name, width, m);
-    if (parse_part(&at, &labels, &part, &n, m) || nothing_left(at, m))
+    if (take_bits(f, field, &part, line, m) || parse_part(&at, &labels, &part, &n, m) || nothing_left(at, m))
         return -1;
     set_bits(&word, width, part.first, part.bits, n);
     put_field(f->c.record, field, word);
@@ -210,7 +253,7 @@ static int apply_part(struct text_form *f, const struct field *field, const char
 
 static int no_name(const char *name, struct message *m)
 {
-    return wrong(m, "there is nothing named \"%s\" to set; names are designation clock time budget frames, the record's "
+    return wrong(m, "there is nothing named \"%.40s\" to set; names are designation clock time budget frames, the record's "
                  "fields (length version ... cr0 gr0), psw.NAME and FIELD.bitN: see drevokas make --help", name);
 }
 
@@ -229,7 +272,7 @@ static int apply_setting(struct text_form *f, unsigned line, int parts, struct m
         *dot = '\0';
     field = find_field(name);
     if (field != NULL)
-        return dot != NULL ? apply_part(f, field, dot + 1, at, m) : apply_field(f, field, at, line, m);
+        return dot != NULL ? apply_part(f, field, dot + 1, at, line, m) : apply_field(f, field, at, line, m);
     if (dot != NULL) {
         *dot = '.';
         return no_name(name, m);
@@ -259,35 +302,13 @@ static int apply_key(struct text_form *f, const char *at, struct message *m)
     if (*at != '=')
         return wrong(m, "\"=\" is missing; write \"key 3 = X'10'\" or \"key 3-5 = X'10'\"");
     at++;
-    if (parse_value(&at, NULL, 8, &n, m) || nothing_left(at, m))
+    if (parse_value(&at, NULL, "key", 8, &n, m) || nothing_left(at, m))
         return -1;
     memset(f->c.keys + first, (int)n, (size_t)(last - first + 1));
     return 0;
 }
 
 /* ---- all of them ---- */
-
-/* The line before this one that sets the same name, or 0. */
-static unsigned set_before(const struct text_form *f, unsigned line)
-{
-    const char *name = f->lines[line - 1].text;
-    size_t length = name_length(name);
-    unsigned n;
-
-    for (n = 1; n < line; n++) {
-        const struct line *l = &f->lines[n - 1];
-
-        if (l->kind == SETTING_LINE && name_length(l->text) == length) {
-            char a[MOST_NAME], b[MOST_NAME];
-
-            split_setting(l->text, a);
-            split_setting(name, b);
-            if (strcmp(a, b) == 0)
-                return n;
-        }
-    }
-    return 0;
-}
 
 static void set_defaults(struct case_file *c)
 {
@@ -306,17 +327,11 @@ static void set_defaults(struct case_file *c)
 static void apply_all(struct text_form *f, int parts)
 {
     struct message m;
-    unsigned line, other;
+    unsigned line;
 
-    for (line = 1; line <= f->count && !enough_faults(f); line++) {
-        if (f->lines[line - 1].kind != SETTING_LINE)
-            continue;
-        other = parts ? 0 : set_before(f, line);
-        if (other != 0)
-            wrong(&m, "this is set in line %u already; leave one of the lines out", other);
-        if (other != 0 || apply_setting(f, line, parts, &m))
+    for (line = 1; line <= f->count && !enough_faults(f); line++)
+        if (f->lines[line - 1].kind == SETTING_LINE && apply_setting(f, line, parts, &m))
             note_fault(f, line, &m);
-    }
 }
 
 void apply_settings(struct text_form *f)

@@ -1,29 +1,27 @@
 /*
  * The text form of a case file, as `make` takes it apart. First every line is sorted by its kind, and the labels get their
- * addresses (make_lines.c); then settings (make_settings.c), page maps (make_maps.c), their tables (make_tables.c) and contents
- * (make_contents.c) are worked out, so that no line has to stand before another one, but for contents, which follow their `at`.
- * Tables and contents go into storage through the page maps (make_storage.c).
+ * addresses (make_lines.c); then settings (make_settings.c), page maps (make_maps.c), their tables (new ones in make_tables.c,
+ * entries of those that are there in make_changes.c) and contents (make_contents.c) are worked out, so that no line has to
+ * stand before another one, but for contents, which follow their `at`. Tables and contents go into storage through the page
+ * maps (make_storage.c).
  */
 #ifndef TEXT_FORM_H
 #define TEXT_FORM_H
 
 #include "case_file.h"
 #include "expression.h"
+#include "fields.h"
+#include "walk.h"
 
 #define MOST_TEXT_BYTES (1u << 20)
 #define MOST_LINES 10000u
 #define MOST_LINE_LENGTH 250u
 #define MOST_LABEL 31u
 #define MOST_ERRORS 20u
-#define ADDRESS_LIMIT UINT64_C(0x80000000)      /* addresses are below 2^31 */
+#define MOST_PAGE_NAME 40
 #define PAGES (1u << 19)
 #define BLOCK_PAGES 16u                         /* in a block of 64 KiB, the origin's unit */
-#define BLOCK 0x7ffff000u                       /* bits 1-19 of a word: a 4 KiB block's address */
 #define REGISTERS 16u
-#define BUCKETS 1024u
-
-#define PAGE_INVALID 0x400u
-#define PAGE_PROTECTED 0x200u
 
 /* What an address counts in. */
 enum space {
@@ -38,6 +36,9 @@ struct place {
     enum space space;
     uint64_t address;
 };
+
+/* Numbers of the case file beside the record. */
+enum number_kind { DESIGNATION, CLOCK, TIME, BUDGET, FRAMES, NUMBER_KINDS };
 
 enum line_kind {
     OTHER_LINE,
@@ -58,12 +59,13 @@ struct line {
     unsigned length;        /* of contents, in bytes */
     const char *label;      /* NULL where there is none */
     size_t label_length;
-    unsigned next;          /* the next line with a label in the same bucket, counted from 1 */
 };
 
-/* The entry of one page in a table, and the line that gives it; line 0 is none. */
+/* The entry of one page in a table, and the line that gives it; line 0 is none. The bits in `kept` are those of the entry that
+   is there already, and the others are as the line says. A page that is carried over from old tables has the line of the new
+   ones. */
 struct page {
-    uint32_t entry;
+    uint32_t entry, kept;
     unsigned line;
 };
 
@@ -80,16 +82,20 @@ struct fault {
 struct text_form {
     struct line *lines;         /* line i + 1 of the text */
     unsigned count;
-    unsigned buckets[BUCKETS];
+    const struct line **labels; /* the lines with a label; sorted by it once all are known */
+    unsigned label_count;
     struct base bases[REGISTERS];
-    struct page *guest_pages;   /* by guest absolute address, for the host's tables */
+    struct page *host_pages;    /* by host virtual address, for the host's tables */
     struct page *virtual_pages; /* by guest virtual address, for the guest's tables */
     unsigned host_line, guest_line;     /* of the tables' places, which follow; 0 is none */
     struct place host_tables, guest_tables;
-    unsigned designation_line, cr1_line;    /* where these are set by name; 0 is none */
+    unsigned number_lines[NUMBER_KINDS];            /* the line that sets each number beside the record; 0 is none */
+    unsigned field_lines[RECORD_BYTES];             /* the same for each field, by its first byte, */
+    unsigned bit_lines[RECORD_BYTES * 8];           /* and for each bit that is set as a part of a field */
     unsigned owners[MOST_FRAMES * FRAME_BYTES];     /* the line that put each byte of storage; 0 is none */
     struct case_file c;
     int from_file;              /* c starts as a case file, and not with what holds if nothing is said */
+    struct case_file old;       /* that case file, as it was */
     struct fault faults[MOST_ERRORS];
     unsigned fault_count;       /* may be over MOST_ERRORS: then the others are not kept */
 };
@@ -103,14 +109,14 @@ int enough_faults(const struct text_form *f);
 /* The labels of a text form, for expressions. */
 struct labels labels_of(struct text_form *f);
 
-/* Defines the label of a line. Returns 0, or the line that defines it already. */
-unsigned define_label(struct text_form *f, unsigned line);
-
 /* Sorts the lines and gives contents and labels their places. */
 void sort_lines(struct text_form *f);
 
 /* Sets what the settings and the key lines say. */
 void apply_settings(struct text_form *f);
+
+/* A one for each bit of a field that a line sets as a part of it. */
+uint64_t given_bits(const struct text_form *f, const struct field *field);
 
 /* Takes the parts of a PSW as "dat=1, address=start" and sets them in a PSW that has bits 12 and 32 one. Returns 0, or -1 with a
    message. */
@@ -119,11 +125,26 @@ int parse_psw(const char *at, const struct labels *labels, uint64_t *psw, struct
 /* Fills the page maps. */
 void apply_maps(struct text_form *f);
 
-/* Puts the tables in storage, and sets what designates them, unless there are faults. */
+/* The first line that maps one of these pages, or 0. */
+unsigned first_line(const struct page *pages);
+
+/* Puts the tables in storage, and sets what designates them, or changes those that are there, unless there are faults. */
 void put_tables(struct text_form *f);
+
+/* Changes the entries of mapped pages in the host's or the guest's tables that are in storage. */
+void change_tables(struct text_form *f, int is_guest);
 
 /* The number of a field of the record. */
 uint64_t record_number(const struct text_form *f, const char *name);
+
+/* The number of the host page that is guest page 0. */
+uint64_t first_host_page(const struct text_form *f);
+
+/* Whether DAT can use the guest's tables of a case file: CR0 bits 8-12 are 10110. */
+int has_guest_tables(const struct case_file *c);
+
+/* What a page of the host's tables (is_guest 0) or of the guest's is called in messages: "guest page X'2000'". */
+void page_name(const struct text_form *f, int is_guest, uint32_t page, char name[MOST_PAGE_NAME]);
 
 /* Puts bytes in storage, through the page maps. Returns 0, or -1 with a message. */
 int put_contents(struct text_form *f, unsigned line, struct place p, const uint8_t *bytes, size_t length, struct message *m);

@@ -5,33 +5,75 @@
 #include "../include/drevokas.h"
 #include "fields.h"
 
-#define BIT(i) (0x80000000u >> (i))
-#define BLOCK 0x7ffff000u           /* bits 1-19: a segment table's or a frame's address */
 #define PAGE_TABLE 0x7fffffc0u      /* bits 1-25: a page table's address */
-#define SEGMENT_INVALID BIT(26)
-#define SEGMENT_ZERO BIT(0)
-#define PAGE_INVALID BIT(21)
-#define PAGE_PROTECTED BIT(22)
-#define PAGE_ZERO (BIT(0) | BIT(20) | BIT(23))
+#define SEGMENT_ZERO TABLE_BIT(0)
+#define BLOCK_SHIFT 16              /* origin and extent count 64 KiB */
 
-/* A table entry. Returns 0, or -1 if it is beyond the storage; it is on a word boundary, so it does not cross the end. */
-static int read_entry(const struct case_file *c, uint32_t at, uint32_t *entry)
+/* ---- tables and their words ---- */
+
+struct tables tables_of_host(const struct case_file *c)
 {
-    if (at >= c->frames * (uint32_t)FRAME_BYTES)
+    struct tables t = {c, c->designation, 0, 0, 0, 0};
+
+    return t;
+}
+
+struct tables tables_of_guest(const struct case_file *c)
+{
+    struct tables t = {c, 0, 1, 0, 0, 0};
+
+    t.designation = (uint32_t)get_field(c->record, find_field("cr1"));
+    t.prefix = (uint32_t)get_field(c->record, find_field("prefix")) & BLOCK;
+    t.origin = get_field(c->record, find_field("origin")) << BLOCK_SHIFT;
+    t.extent = get_field(c->record, find_field("extent")) << BLOCK_SHIFT;
+    return t;
+}
+
+uint64_t absolute_of(uint32_t prefix, uint64_t real)
+{
+    uint64_t block = real & ~UINT64_C(0xfff);
+
+    if (block == 0)
+        return real | prefix;
+    return block == prefix ? real & 0xfff : real;
+}
+
+/* Where a word of the tables stands in storage. Returns 0, or -1 if it is beyond the storage, or, of the guest's tables, beyond
+   the extent or in a page that the host does not have. It is on a word boundary, so it does not cross an end. */
+static int place_of(const struct tables *t, uint32_t at, uint32_t *place)
+{
+    uint64_t host = t->origin + absolute_of(t->prefix, at);
+    struct host_page p;
+
+    *place = at;
+    if (!t->is_guest)
+        return at < t->c->frames * (uint32_t)FRAME_BYTES ? 0 : -1;
+    if (at >= t->extent || host >= ADDRESS_LIMIT)
         return -1;
-    *entry = (uint32_t)get_number(c->storage + at, 4);
+    p = walk(t->c, (uint32_t)host);
+    *place = p.frame * FRAME_BYTES + at % FRAME_BYTES;
+    return p.code == 0 ? 0 : -1;
+}
+
+static int read_entry(const struct tables *t, uint32_t at, uint32_t *place, uint32_t *entry)
+{
+    if (place_of(t, at, place) != 0)
+        return -1;
+    *entry = (uint32_t)get_number(t->c->storage + *place, 4);
     return 0;
 }
 
+/* ---- the walk ---- */
+
 /* The segment entry: 0 or a program code. */
-static unsigned segment_step(const struct case_file *c, uint32_t address, struct host_page *p, uint32_t *entry)
+static unsigned segment_step(const struct tables *t, uint32_t address, struct host_page *p, uint32_t *entry)
 {
     uint32_t index = address >> 20 & 0x7ff;
 
-    if (index >> 4 > (c->designation & 0x7f))
+    if (index >> 4 > (t->designation & 0x7f))
         return DREVOKAS_SEGMENT_TRANSLATION;
-    p->segment_at = (c->designation & BLOCK) + 4 * index;
-    if (read_entry(c, p->segment_at, entry) != 0)
+    p->segment_at = (t->designation & BLOCK) + 4 * index;
+    if (read_entry(t, p->segment_at, &p->segment_place, entry) != 0)
         return DREVOKAS_ADDRESSING;
     p->segment_read = 1;
     if (*entry & SEGMENT_INVALID)
@@ -40,36 +82,50 @@ static unsigned segment_step(const struct case_file *c, uint32_t address, struct
 }
 
 /* The page entry, from a valid segment entry: 0 or a program code. */
-static unsigned page_step(const struct case_file *c, uint32_t address, uint32_t segment, struct host_page *p, uint32_t *entry)
+static unsigned page_step(const struct tables *t, uint32_t address, uint32_t segment, struct host_page *p)
 {
     uint32_t index = address >> 12 & 0xff;
 
     if (index >> 4 > (segment & 0xf))
         return DREVOKAS_PAGE_TRANSLATION;
     p->page_at = (segment & PAGE_TABLE) + 4 * index;
-    if (read_entry(c, p->page_at, entry) != 0)
+    if (read_entry(t, p->page_at, &p->page_place, &p->entry) != 0)
         return DREVOKAS_ADDRESSING;
     p->page_read = 1;
-    if (*entry & PAGE_INVALID)
+    if (p->entry & PAGE_INVALID)
         return DREVOKAS_PAGE_TRANSLATION;
-    return *entry & PAGE_ZERO ? DREVOKAS_TRANSLATION_SPECIFICATION : 0;
+    return p->entry & PAGE_ZERO ? DREVOKAS_TRANSLATION_SPECIFICATION : 0;
+}
+
+struct host_page walk_tables(const struct tables *t, uint32_t address)
+{
+    struct host_page p;
+    uint32_t segment = 0;
+
+    memset(&p, 0, sizeof p);
+    p.code = segment_step(t, address, &p, &segment);
+    if (p.code == 0)
+        p.code = page_step(t, address, segment, &p);
+    if (p.code != 0)
+        return p;
+    p.valid = 1;
+    p.is_protected = (p.entry & PAGE_PROTECTED) != 0;
+    p.frame = (p.entry & BLOCK) >> 12;
+    if (!t->is_guest && p.frame >= t->c->frames)
+        p.code = DREVOKAS_ADDRESSING;
+    return p;
 }
 
 struct host_page walk(const struct case_file *c, uint32_t address)
 {
-    struct host_page p;
-    uint32_t segment = 0, page = 0;
+    struct tables t = tables_of_host(c);
 
-    memset(&p, 0, sizeof p);
-    p.code = segment_step(c, address, &p, &segment);
-    if (p.code == 0)
-        p.code = page_step(c, address, segment, &p, &page);
-    if (p.code != 0)
-        return p;
-    p.valid = 1;
-    p.is_protected = (page & PAGE_PROTECTED) != 0;
-    p.frame = (page & BLOCK) >> 12;
-    if (p.frame >= c->frames)
-        p.code = DREVOKAS_ADDRESSING;
-    return p;
+    return walk_tables(&t, address);
+}
+
+unsigned entry_frames(const struct host_page *p)
+{
+    unsigned of_segment = p->segment_read ? 1u << p->segment_place / FRAME_BYTES : 0;
+
+    return p->page_read ? of_segment | 1u << p->page_place / FRAME_BYTES : of_segment;
 }

@@ -1,5 +1,6 @@
 #!/usr/bin/env python3
-"""fuzz.py COMMAND FOLDER COUNT [SEED]: COUNT damaged texts through `make`, COUNT damaged case files through `explain` and `run`.
+"""fuzz.py COMMAND FOLDER COUNT [SEED]: COUNT damaged texts through `make`, half of them with `--from` and a damaged case file;
+COUNT damaged case files through `explain` and `run`.
 
 Each call must end by itself within a second of CPU time, by no signal, with exit status 0, 1 or 2, and with a message on
 standard error if that is not 0. A file is left by make only with status 0, and is then a case file. Prints the seed, each
@@ -57,11 +58,14 @@ def call(name, *arguments):
 NUMBERS = ["0", "1", "-1", "4095", "4096", "X'FFF'", "X'80000000'", "18446744073709551615", "18446744073709551616",
            "-9223372036854775808", "X''", "0x", "B'1'", "1.5us", "99999999999s", "X'7FFFF000'-X'7FFFFFFF'", "7-0", "1..2", "'",
            "X'0"]
-LINES = ["at virtual X'7FFFFFFF'", "at frame 7 4095", "space 32768", "align 4096", "double 1,2,3", "word " + "1," * 120,
+LINES = ["at virtual X'7FFFFFFF'", "at frame 7 0FFF", "space 32768", "align 4096", "double 1,2,3", "word " + "1," * 120,
          "map guest 0-X'7FFFFFFF' invalid", "map virtual 0-X'7FFFFFFF' invalid", "guest tables at real 0",
          "host tables at frame 7", "origin = 32767", "prefix = X'7FFFF000'", "frames = 1", "using 0,1", "key 0-7 = 1", "psw",
          "psw dat=1,", "=", "a", "a b c", "L 1,(", "BC 15,start(,", "designation = -1", "bytes X'", "cr0.bit31 = 1",
-         "psw.bit64 = 1", "map", "host", "guest", "drop 15", "at", "B B", "* *", "#"]
+         "psw.bit64 = 1", "map", "host", "guest", "drop 15", "at", "B B", "* *", "#", "at guest 0FF8", "at guest 10",
+         "map guest 0-X'FFFF' invalid", "map guest X'1000' to frame 2", "map guest X'2000' to frame 0 protected",
+         "map virtual X'1000'-X'3FFF' to real 0", "at virtual X'1000'", "cr0 = X'00B00000'", "cr1 = 127", "designation = 127",
+         "extent = 32767", "guest tables at real X'1000'", "host tables at frame 1"]
 OPCODES = [0x07, 0x0A, 0x18, 0x1A, 0x41, 0x47, 0x50, 0x58, 0x82, 0xB2, 0xB6, 0xB7]
 
 
@@ -130,7 +134,7 @@ def strange_text():
     return (r.choice("aX'1,(=-# \n") * r.choice([1, 200, 5000, 2**20, 2**20 + 1])).encode()
 
 
-def fuzz_text(texts, i):
+def fuzz_text(texts, cases, i):
     text = r.choice(texts)
     kind = r.randrange(10)
     if kind < 7:
@@ -141,11 +145,13 @@ def fuzz_text(texts, i):
         damaged = text.encode()[:r.randrange(len(text))]
     else:
         damaged = strange_text()
-    name, out = os.path.join(FOLDER, f"{i}.txt"), os.path.join(FOLDER, f"{i}.made")
+    name, old, out = (os.path.join(FOLDER, f"{i}.{ending}") for ending in ("txt", "old", "made"))
     with open(name, "wb") as f:
         f.write(damaged)
+    with open(old, "wb") as f:
+        f.write(r.choice(cases) if r.random() < 0.3 else damage_case(r.choice(cases)))
     before = failures
-    status = call(name, "make", name, "-o", out)
+    status = call(name, "make", name, "-o", out, *r.choice([[], ["--from", old]]))
     if os.path.exists(out) != (status == 0):
         fail(f"make ended with {status}, and its file is {'there' if os.path.exists(out) else 'not there'}", name)
     elif status == 0:
@@ -154,6 +160,7 @@ def fuzz_text(texts, i):
         os.remove(out)
     if failures == before:
         os.remove(name)
+        os.remove(old)
 
 
 # Damage to case files: length 4, version 1, designation 4, clock 8, time 4, budget 2, record 200, count 1, keys, frames
@@ -226,7 +233,7 @@ def main():
         with open(name, "rb") as f:
             cases.append(f.read())
     for i in range(COUNT):
-        fuzz_text(texts, i)
+        fuzz_text(texts, cases, i)
         fuzz_case(cases, i)
     print("fuzz:", ", ".join(f"{command} {status}: {n}" for (command, status), n in sorted(ends.items())))
     print(f"fuzz: {calls} calls, {failures} failed")

@@ -272,10 +272,18 @@ test_make() {
     [ ! -e "$OUT/wrong.in" ] || fail 'make: a case file in spite of an error'
     says 2 '' 'none.txt' make "$OUT/none.txt" -o "$OUT/wrong.in"
     says 2 '' 'none/rich.in' make shell/tests/rich.txt -o "$OUT/none/rich.in"
-    for text in examples/*.txt; do
+    for text in examples/batch.txt examples/page_exception.txt examples/protected_page.txt; do
         says 0 '' '' make "$text" -o "$OUT/example.in"
         says 0 good '' check "$OUT/example.in"
     done
+    says 0 '' '' make examples/protected_page_lift.txt --from "$OUT/example.in" -o "$OUT/lifted.in"
+    call run "$OUT/lifted.in"
+    [ "$status" -eq 0 ] && [ "$(cat "$OUT/out")" = 'I 28 3' ] || fail "the lifted page: $(cat "$OUT/out")"
+    says 2 '' 'lift.txt:4: the host' make examples/protected_page_lift.txt -o "$OUT/wrong.in"
+    : > "$OUT/empty.txt"
+    says 2 '' 'empty.txt: the text says nothing' make "$OUT/empty.txt" -o "$OUT/wrong.in"
+    says 2 '' 'it changes nothing' make "$OUT/empty.txt" --from "$OUT/example.in" -o "$OUT/wrong.in"
+    [ ! -e "$OUT/wrong.in" ] || fail 'make: a case file in spite of an error'
 }
 
 # What a person reads, word for word.
