@@ -17,7 +17,7 @@ struct course {
     int why;                        /* errno of the checkpoint that ended it, or 0 */
 };
 
-/* How many of the units that are left can be run at once: as many as one call of the library takes, up to the next checkpoint. */
+/* How many of the units that are left can be run at once: as many as one call takes, up to the next checkpoint. */
 uint32_t units_at_once(const struct course *k, uint64_t done, uint64_t left);
 
 /* Whether a run that is not over after so many units goes on: no signal came, its lines could be written, and so could the

@@ -2,7 +2,8 @@
 #ifndef INTERRUPT_H
 #define INTERRUPT_H
 
-/* From here on these signals are noted, but for one that was ignored before, which stays so. */
+/* From here on these signals are noted, but for one that was ignored before, which stays so. Once one came, SIGPIPE does not
+   end the program. */
 void catch_interrupts(void);
 
 /* They do again what they did before, unless one came: a second one then does no harm either. */

@@ -41,12 +41,12 @@ enum { BUDGET, AFTER, CHECKPOINT, QUIET };
     "                   or interrupted\n\n" \
     "SIGINT (Ctrl-C), SIGTERM and SIGHUP interrupt the run: it ends early, a trace with the next unit and\n" \
     "a run within 65535 units, prints its line and writes OUT.\n\n" \
-    "Exit status: 0, 1 if the run is refused, 2 for bad usage or a file that cannot be read or written (OUT\n" \
-    "has then not advanced beyond its last checkpoint), 129 if interrupted by SIGHUP, 130 by SIGINT, 143 by\n" \
-    "SIGTERM.\n"
+    "Exit status: 0, 1 if the run is refused, 2 for bad usage or a file that cannot be read or written,\n" \
+    "and then OUT has not advanced beyond its last checkpoint; 129 if interrupted by SIGHUP, 130 by\n" \
+    "SIGINT, 143 by SIGTERM.\n"
 
-/* A sub-command with one operand, a case file, and these options: runs the file by this function, then prints document 01's line
-   and writes the case file after the run. Returns the exit status. */
+/* A sub-command with one operand, a case file, and these options: runs the file by this function, then prints document 01's
+   line and writes the case file after the run. Returns the exit status. */
 int run_as_asked(int argc, char **argv, const struct usage *u, run_function *run);
 
 #endif
