@@ -42,7 +42,7 @@ def expect(good, what):
     tests += 1
     if not good:
         failures += 1
-        print(f"output_test: {what}")
+        print(f"output_test: {what[:1000]}")
 
 
 def prepare(ignored=()):
@@ -129,6 +129,11 @@ def after(units, case="guest.case"):
     status, data, err = call("run", case, "--budget", str(units), "--after", "-", "--quiet")
     expect(status == 0 and err == f"B 0 {units}\n", f"run of {units} units: {status}, {err}")
     return data
+
+
+def in_dev(*names):
+    """These names in /dev, unless a faulty command could replace what is there: links to /proc/self/fd stand for them then."""
+    return () if os.access("/dev", os.W_OK) else names
 
 
 def nothing_left(*names):
@@ -259,9 +264,13 @@ def test_checkpoint_usage():
         says([*run, "--checkpoint", "5"], 2, b"", "--checkpoint: needs --after OUT")
         for number in "0", "", "x", "-1", "4294967296":
             says([*run, "--after", "out.case", f"--checkpoint={number}"], 2, b"", "must be a decimal number from 1 to 429")
-        for name in "-", "/dev/stdout", "/dev/null", "/dev/fd/2":
+        os.symlink("/proc/self/fd/1", "so")
+        os.mkfifo("pipe")
+        reader = os.open("pipe", os.O_RDONLY | os.O_NONBLOCK)
+        for name in "-", "so", "pipe", "/dev/fd/2", *in_dev("/dev/stdout", "/dev/null"):
             says([*run, "--after", name, "--checkpoint", "5"], 2, b"", "--checkpoint: needs an ordinary file after --after")
-        nothing_left()
+        os.close(reader)
+        nothing_left("so", "pipe")
         run = ["run", "guest.case", "--budget", "9", "--after", "out.case", "--quiet"]
         says([*run, "--checkpoint", FOREVER], 0, b"B 0 9\n", None)
         expect(read("out.case") == after(9), "--checkpoint beyond the budget")
@@ -271,8 +280,9 @@ def test_killed():
     """A run that is killed leaves its last checkpoint, which is at a multiple of the units."""
     for sub, every in ("run", 70001), ("run", 1000), ("trace", 7):
         with folder():
+            run = [sub, "guest.case", "--budget", FOREVER, "--after", "out.case", "--checkpoint", str(every)]
             with open("lines", "wb") as lines:
-                p = running(sub, "guest.case", "--budget", FOREVER, "--after", "out.case", "--checkpoint", str(every), stdout=lines)
+                p = running(*run, stdout=lines)
             poll(lambda: p.poll() is not None or (os.path.exists("out.case") and units_of(read("out.case")) > every),
                  "a second checkpoint")
             p.kill()
@@ -293,9 +303,10 @@ def test_checkpoint_fails():
             for rename, kept, message in [(3, 2, f"the checkpoint after {3 * every} units cannot be written: {full}"),
                                           (5, 4, f"cannot be written: {full}")]:
                 ended, out, err = call(*run, faults={"rename": f"{rename}:{errno.ENOSPC}"})
-                expect(ended == 2 and out.endswith(f"B 0 {5 * every}\n".encode()) == (rename == 5), f"{run}: {ended}, {out[-80:]}")
-                expect(err == f"drevokas: out.case: {message}\n"
-                       f"drevokas: out.case: is as it stood after {kept * every} units, at its last checkpoint\n", f"{run}: {err}")
+                last = out.endswith(f"B 0 {5 * every}\n".encode())
+                expect(ended == 2 and last == (rename == 5), f"{run}: {ended}, {out[-80:]}")
+                stands = f"is as it stood after {kept * every} units, at its last checkpoint"
+                expect(err == f"drevokas: out.case: {message}\ndrevokas: out.case: {stands}\n", f"{run}: {err}")
                 expect(read("out.case") == after(kept * every), f"{run}: not checkpoint {kept}")
             ended, out, err = call(*run, faults={"rename": f"6:{errno.ENOSPC}"})
             expect(ended == 0 and err == "" and read("out.case") == after(5 * every), f"{run}: a sixth time: {ended}, {err}")
@@ -327,8 +338,9 @@ def test_places():
             os.symlink("one", "two")
             os.symlink("none/out.case", "astray")
             with open("/dev/null", "rb") as wrong_way:
-                refuses("/dev/stdout", "/dev/stdout: cannot be written: Bad file descriptor", sub=sub, stdout=wrong_way)
-                refuses("/dev/stdin", "/dev/stdin: cannot be written: Bad file descriptor", sub=sub, stdin=wrong_way)
+                for name in "/dev/fd/1", *in_dev("/dev/stdout"):
+                    refuses(name, f"{name}: cannot be written: Bad file descriptor", sub=sub, stdout=wrong_way)
+                refuses("/dev/fd/0", "/dev/fd/0: cannot be written: Bad file descriptor", sub=sub, stdin=wrong_way)
             for name, message in [("none/out.case", "No such file"), ("inner", "Is a directory"), ("inner/", "Is a directory"),
                                   ("guest.case/out", "Not a directory"), ("none/", "No such file"), ("", "No such file"),
                                   ("x" * 256, "File name too long"), ("one", "Too many levels"), ("astray", "No such file"),
@@ -403,7 +415,7 @@ def test_descriptors():
         os.symlink("so", "chain")
         os.symlink("/dev/fd", "fds")
         whole = after(5) + read("guest.case")
-        for name in "-", "/dev/stdout", "/dev/fd/1", "/proc/thread-self/fd/1", "so", "chain", "fds/1":
+        for name in "-", "/dev/fd/1", "/proc/thread-self/fd/1", "so", "chain", "fds/1", *in_dev("/dev/stdout"):
             expect(in_place(name, subprocess.PIPE, "a pipe") == whole, f"{name} into a pipe")
             write("log", b"a line of the log\n")
             with open("log", "ab") as log:
@@ -423,15 +435,18 @@ def test_descriptors():
 def test_devices():
     """What is no ordinary file is written as it is."""
     with folder():
-        os.symlink("/dev/null", "null")
-        says(["run", "guest.case", "--budget", "5", "--after", "null", "--quiet"], 0, b"B 0 5\n", None)
-        expect(os.readlink("null") == "/dev/null", "a link to a device is replaced")
+        run = ["run", "guest.case", "--budget", "5", "--quiet", "--after"]
+        for name in in_dev("/dev/null"):
+            says([*run, name], 0, b"B 0 5\n", None)
+        for name in in_dev("/dev/full"):
+            says([*run, name], 2, b"B 0 5\n", f"{name}: cannot be written: No space")
         os.mkfifo("pipe")
-        p = start("run", "guest.case", "--budget", "5", "--after", "pipe", "--quiet")
+        os.symlink("pipe", "link")
+        p = start(*run, "link")
         q = start("run", "pipe", "--budget", "4", "--after", "out.case", "--quiet")
         expect(finish(p) == (0, b"B 0 5\n", "") and finish(q) == (0, b"B 0 4\n", ""), "a pipe")
         expect(read("out.case") == after(9), "a pipe: not the case file after both")
-        nothing_left("null", "pipe", "out.case")
+        nothing_left("link", "pipe", "out.case")
 
 
 def test_links():
@@ -517,11 +532,13 @@ def test_quiet():
 # Terminals
 
 class Terminal:
-    """The command on a terminal of its own, with the streams named going there and the others to the file `lines`."""
+    """The command on a terminal of its own, with the streams named going there and the others to the file `lines`. TERMINAL as
+    an argument stands for the terminal's name."""
 
     def __init__(self, *arguments, streams=(1, 2)):
         self.ours, theirs = pty.openpty()
         self.shown = b""
+        arguments = [os.ttyname(theirs) if argument == "TERMINAL" else argument for argument in arguments]
         lines = open("lines", "wb")
         streams = {name: theirs if n in streams else lines for n, name in ((1, "stdout"), (2, "stderr"))}
         self.process = subprocess.Popen([COMMAND, *arguments], stdin=theirs, start_new_session=True, preexec_fn=self.prepare,
@@ -557,15 +574,15 @@ class Terminal:
 
 def test_terminal_refused():
     for sub in "run", "trace":
-        for name in "-", "/dev/stdout", "/dev/tty", "/dev/fd/2", "/dev/stdin", "link":
+        for name in "-", "so", "/dev/fd/2", "/dev/fd/0", "TERMINAL", *in_dev("/dev/stdout", "/dev/tty"):
             with folder():
-                os.symlink("/dev/tty", "link")
+                os.symlink("/proc/self/fd/1", "so")
                 t = Terminal(sub, "guest.case", "--budget", FOREVER, "--after", name)
                 ended = t.ended()
                 good = ended == 2 and b"cannot be written: it is a terminal" in t.shown and t.shown.count(b"\n") == 1
                 expect(good, f"{sub} --after {name}: {ended}, {t.shown}")
                 t.close()
-    for name in "/dev/stdout", "/dev/tty":
+    for name in "/dev/fd/1", "TERMINAL", *in_dev("/dev/stdout", "/dev/tty"):
         with folder():
             t = Terminal("make", "guest.txt", "-o", name)
             ended = t.ended()
@@ -607,9 +624,9 @@ def test_terminal_gone():
 
 for test in (test_interrupted, test_interrupted_first, test_own_end, test_second_signal, test_ignored, test_reader_gone,
              test_checkpoint_usage, test_killed, test_checkpoint_fails, test_interrupted_between, test_places,
-             test_not_over_a_text, test_own_output, test_line_first, test_descriptors, test_devices, test_links, test_long_names,
-             test_missing_calls, test_signals_while_writing, test_quiet, test_terminal_refused, test_terminal_interrupted,
-             test_terminal_gone):
+             test_not_over_a_text, test_own_output, test_line_first, test_descriptors, test_devices, test_links,
+             test_long_names, test_missing_calls, test_signals_while_writing, test_quiet, test_terminal_refused,
+             test_terminal_interrupted, test_terminal_gone):
     test()
 print(f"output_test: {tests} tests, {failures} failed")
 sys.exit(failures > 0)
