@@ -247,13 +247,13 @@ def test_reader_gone():
             units = re.search(r"interrupted by SIGINT after (\d+) units", err)
             expect(ended == 130 and units is not None, f"{sub}, reader gone: {ended}, {err}")
             expect(read("out.case") == after(int(units.group(1))), f"{sub}, reader gone: not the case file")
-    with folder():
-        before = read("guest.case")
-        ours, theirs = os.pipe()
-        os.close(ours)
-        says(["run", "guest.case", "--budget", "5", "--after", "guest.case"], -signal.SIGPIPE, b"", None, stdout=theirs)
-        os.close(theirs)
-        expect(read("guest.case") == before, "a reader that is gone: the case file advanced")
+        with folder():
+            before = read("guest.case")
+            ours, theirs = os.pipe()
+            os.close(ours)
+            says([sub, "guest.case", "--budget", "5", "--after", "guest.case"], -signal.SIGPIPE, b"", None, stdout=theirs)
+            os.close(theirs)
+            expect(read("guest.case") == before, f"{sub}, a reader that is gone: the case file advanced")
 
 
 # Checkpoints
@@ -351,6 +351,9 @@ def test_places():
             if os.geteuid() != 0:
                 os.chmod("inner", 0o555)
                 refuses("inner/out.case", "Permission denied", sub=sub)
+                os.chmod(shutil.copy("guest.case", "kept.case"), 0o444)
+                refuses("kept.case", "Permission denied", sub=sub)
+                os.chmod("inner", 0o755)
 
 
 def test_not_over_a_text():
