@@ -140,8 +140,8 @@ static int find_after(const struct arguments *a, struct output *after, struct co
     return GO_ON;
 }
 
-/* Loads the case file and runs it. Returns the exit status. */
-static int run_file(const struct arguments *a, const uint32_t *budget, struct course *k, run_function *run)
+/* Loads the case file and runs it, by its own budget if none is asked for. Returns the exit status. */
+static int run_file(const struct arguments *a, uint32_t budget, struct course *k, run_function *run)
 {
     struct case_file c;
     struct ending e;
@@ -152,7 +152,7 @@ static int run_file(const struct arguments *a, const uint32_t *budget, struct co
     if (status != GO_ON)
         return finished(status);
     catch_interrupts();
-    e = run(k->to, &c, a->values[BUDGET] != NULL ? *budget : c.budget, k);
+    e = run(k->to, &c, a->values[BUDGET] != NULL ? budget : c.budget, k);
     status = end_with(k, &e, &c, a);
     release_interrupts();
     return status;
@@ -174,7 +174,7 @@ int run_as_asked(int argc, char **argv, const struct usage *u, run_function *run
         status = find_after(&a, &after, &k);
     if (status != GO_ON)
         return status;
-    status = run_file(&a, &budget, &k, run);
+    status = run_file(&a, budget, &k, run);
     if (k.after != NULL)
         release_output(&after);
     return status;
