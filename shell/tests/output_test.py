@@ -615,9 +615,9 @@ def test_terminal_interrupted():
 
 def test_terminal_gone():
     """The terminal is closed: SIGHUP, and nothing can be shown; the case file is written."""
-    for sub in "run", "trace":
+    for sub, streams in ("run", (1, 2)), ("trace", (2,)):
         with folder():
-            t = Terminal(sub, "guest.case", "--budget", FOREVER, "--after", "out.case")
+            t = Terminal(sub, "guest.case", "--budget", FOREVER, "--after", "out.case", streams=streams)
             poll(lambda: t.process.poll() is not None or is_caught(t.process, signal.SIGHUP), "a handler")
             t.close()
             ended = finish(t.process)[0]
@@ -625,6 +625,8 @@ def test_terminal_gone():
             expect(ended == 129 and data == after(units_of(data)), f"{sub}, terminal gone: {ended}")
 
 
+while os.open(os.devnull, os.O_RDWR) <= 2:  # a stream that is closed
+    pass
 for test in (test_interrupted, test_interrupted_first, test_own_end, test_second_signal, test_ignored, test_reader_gone,
              test_checkpoint_usage, test_killed, test_checkpoint_fails, test_interrupted_between, test_places,
              test_not_over_a_text, test_own_output, test_line_first, test_descriptors, test_devices, test_links,
