@@ -37,16 +37,21 @@ static int take_option(int argc, char **argv, int i, const struct usage *u, stru
 {
     unsigned o = named(u, argv[i]);
     const char *equals = strchr(argv[i], '=');
+    int flag = o < MOST_OPTIONS && strcmp(u->options[o], QUIET_OPTION) == 0;
 
     if (o == MOST_OPTIONS)
         complain("%s: unknown option %s", argv[0], argv[i]);
     else if (a->values[o] != NULL)
         complain("%s: option %s is given twice", argv[0], u->options[o]);
-    else if (equals == NULL && i + 1 == argc)
+    else if (flag && equals != NULL)
+        complain("%s: option %s takes no value", argv[0], u->options[o]);
+    else if (!flag && equals == NULL && i + 1 == argc)
         complain("%s: option %s needs a value", argv[0], u->options[o]);
     else {
-        a->values[o] = equals != NULL ? equals + 1 : argv[i + 1];
-        return equals != NULL ? 1 : 2;
+        int used = flag || equals != NULL ? 1 : 2;
+
+        a->values[o] = equals != NULL ? equals + 1 : argv[i + used - 1];
+        return used;
     }
     return 0;
 }
@@ -134,14 +139,14 @@ int hex_number(const char *text, uint64_t most, uint64_t *value)
     return number(text, 16, most, value);
 }
 
-int budget_option(const char *value, uint32_t *units)
+int units_option(const char *option, const char *value, uint32_t least, uint32_t *units)
 {
     uint64_t n = 0;
 
     if (value == NULL)
         return GO_ON;
-    if (decimal_number(value, MOST_UNITS, &n) != 0) {
-        complain("--budget %s: must be a decimal number from 0 to %u", value, MOST_UNITS);
+    if (decimal_number(value, MOST_UNITS, &n) != 0 || n < least) {
+        complain("%s %s: must be a decimal number from %u to %u", option, value, (unsigned)least, MOST_UNITS);
         return STATUS_BAD;
     }
     *units = (uint32_t)n;
@@ -161,13 +166,21 @@ int load(const char *name, struct case_file *c)
     return result == READ_MALFORMED ? STATUS_REFUSED : STATUS_BAD;
 }
 
+int save_to(const struct output *o, const struct case_file *c, int status)
+{
+    if (write_output(o, c) == 0)
+        return status;
+    complain("%s: cannot be written: %s", o->name, strerror(errno));
+    return STATUS_BAD;
+}
+
 int save(const char *name, const struct case_file *c, int status)
 {
-    uint8_t bytes[MOST_FILE_BYTES];
-    size_t length = case_file_bytes(c, bytes);
+    struct output o;
 
-    if (write_whole_file(name, bytes, length) == 0)
-        return status;
-    complain("%s: cannot be written: %s", strcmp(name, "-") == 0 ? "standard output" : name, strerror(errno));
-    return STATUS_BAD;
+    if (find_output(name, &o) != GO_ON)
+        return STATUS_BAD;
+    status = save_to(&o, c, status);
+    release_output(&o);
+    return status;
 }

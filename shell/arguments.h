@@ -5,18 +5,20 @@
 #include <stdint.h>
 
 #include "case_file.h"
+#include "output.h"
 
 #define GO_ON (-1)      /* the arguments are good; any other result is the exit status */
 
 #define MOST_OPERANDS 2
-#define MOST_OPTIONS 2
+#define MOST_OPTIONS 4
+#define QUIET_OPTION "--quiet"      /* the only option without a value */
 
 /* What a sub-command takes. */
 struct usage {
     const char *synopsis;               /* one line, without the program's name */
     const char *help;                   /* the rest of what --help prints */
     unsigned operands;                  /* so many, no fewer and no more */
-    const char *options[MOST_OPTIONS];  /* names with their dashes, or NULL; each has a value: "--name VALUE", "--name=VALUE" */
+    const char *options[MOST_OPTIONS];  /* names with their dashes, or NULL; with a value: "--name VALUE", "--name=VALUE" */
 };
 
 /* What it is given. */
@@ -34,13 +36,17 @@ int decimal_number(const char *text, uint64_t most, uint64_t *value);
 /* A hexadecimal number from 0 to most, with or without 0x. Returns 0, or -1. */
 int hex_number(const char *text, uint64_t most, uint64_t *value);
 
-/* The units that --budget asks for, left as they are when its value is NULL. Complains of a value that is no such number. */
-int budget_option(const char *value, uint32_t *units);
+/* The units, least at least, that this option asks for, left as they are when its value is NULL. Complains of a value that is no
+   such number. */
+int units_option(const char *option, const char *value, uint32_t least, uint32_t *units);
 
 /* Reads a case file. Complains if it cannot: STATUS_REFUSED if it is malformed, STATUS_BAD if it cannot be read. */
 int load(const char *name, struct case_file *c);
 
-/* Writes a case file. Complains and returns STATUS_BAD if it cannot, else returns status. */
+/* Writes a case file to this output. Complains and returns STATUS_BAD if it cannot, else returns status. */
+int save_to(const struct output *o, const struct case_file *c, int status);
+
+/* The same for the output of this name. */
 int save(const char *name, const struct case_file *c, int status);
 
 #endif

@@ -1,6 +1,6 @@
 /*
  * A case file of document 01: the numbers, a record, up to eight frames and their keys. Reading tests everything that document 01
- * calls malformed and tells what is wrong; writing puts the whole file in place at once or not at all.
+ * calls malformed and tells what is wrong.
  */
 #ifndef CASE_FILE_H
 #define CASE_FILE_H
@@ -38,9 +38,5 @@ size_t case_file_bytes(const struct case_file *c, uint8_t *bytes);
 
 /* Takes bytes apart as a case file; NULL if they are one, else what is wrong with them. */
 const char *parse_case_file(const uint8_t *bytes, size_t length, struct case_file *c);
-
-/* Writes a file under a temporary name in the same folder and renames it; "-" is standard output. Returns 0, or -1 with errno
-   set, and then the file of that name is as it was. */
-int write_whole_file(const char *name, const void *bytes, size_t length);
 
 #endif

@@ -3,6 +3,8 @@
 #include <stdio.h>
 #include <unistd.h>
 
+#include "interrupt.h"
+
 #define EVERY_MILLISECONDS 500
 
 struct progress progress_of(uint64_t whole)
@@ -38,7 +40,7 @@ void progress_at(struct progress *p, uint64_t done)
 
 void progress_over(struct progress *p)
 {
-    if (p->begun)
+    if (p->begun || (p->shown && interrupted_by() != 0))
         fprintf(stderr, "\r%60s\r", "");
     p->begun = 0;
 }

@@ -17,7 +17,7 @@ struct progress progress_of(uint64_t whole);
 /* So many units are done: writes the line anew if a while has passed. */
 void progress_at(struct progress *p, uint64_t done);
 
-/* Clears the line. */
+/* Clears the line, and the ^C that a terminal shows there. */
 void progress_over(struct progress *p);
 
 #endif

@@ -1,9 +1,11 @@
 #include "resume.h"
 
 #include <string.h>
+#include <unistd.h>
 
 #include "../include/drevokas.h"
 #include "command.h"
+#include "interrupt.h"
 #include "progress.h"
 #include "words.h"
 
@@ -22,23 +24,23 @@ struct ending run_slice(struct case_file *c, uint32_t units)
     return e;
 }
 
-struct ending run_units(struct case_file *c, uint32_t units)
+struct ending run_units(struct case_file *c, uint32_t units, struct course *k)
 {
     struct progress p = progress_of(units);
     struct ending e;
     uint64_t done = 0;
 
     do {
-        uint64_t left = units - done;
-
-        e = run_slice(c, left < DREVOKAS_MOST_UNITS ? (uint32_t)left : DREVOKAS_MOST_UNITS);
+        e = run_slice(c, units_at_once(k, done, units - done));
         done += e.units;
         progress_at(&p, done);
-    } while (e.kind == DREVOKAS_BUDGET_USED && done < units);
+    } while (e.kind == DREVOKAS_BUDGET_USED && done < units && goes_on(k, c, done));
     progress_over(&p);
     e.units = done;
     return e;
 }
+
+/* ---- the end ---- */
 
 /* Document 01's line. */
 static void print_line(FILE *to, const struct ending *e)
@@ -49,12 +51,20 @@ static void print_line(FILE *to, const struct ending *e)
         fprintf(to, "%c %u %llu\n", "RIHB"[e->kind & 3], (unsigned)e->number, (unsigned long long)e->units);
 }
 
+/* Whether the line, and all before it, is written; complains if not. */
+static int line_is_out(FILE *to, const struct ending *e)
+{
+    if (!ferror(to))
+        print_line(to, e);
+    return finished(STATUS_GOOD) == STATUS_GOOD && !ferror(to);
+}
+
 /* What the line does not say: why the file was refused, or where a host fault happened. Returns the exit status. */
-static int comment_on(const struct ending *e, const struct case_file *c, const char *name)
+static int comment_on(const struct ending *e, const struct case_file *c, const char *name, int quiet)
 {
     char text[SENTENCE];
 
-    if (e->kind == DREVOKAS_HOST_FAULT)
+    if (e->kind == DREVOKAS_HOST_FAULT && !quiet)
         complain("%s: host fault %02x hex, %s, at host address %08llx hex", name, (unsigned)e->number, program_words(e->number),
                  (unsigned long long)e->where);
     if (e->kind != DREVOKAS_REFUSED)
@@ -64,39 +74,108 @@ static int comment_on(const struct ending *e, const struct case_file *c, const c
     return STATUS_REFUSED;
 }
 
-static int end_with(FILE *to, const struct ending *e, const struct case_file *c, const struct arguments *a)
+/* The exit status of a run that a signal ended, as a shell gives it for the signal itself. */
+static int interrupted(const struct ending *e, int number, const char *name)
 {
-    const char *after = a->values[1];
-    int status;
+    complain("%s: interrupted by %s after %llu units", name, interrupt_name(number), (unsigned long long)e->units);
+    return 128 + number;
+}
 
-    if (ferror(to))
-        return finished(STATUS_BAD);
-    print_line(to, e);
-    status = comment_on(e, c, a->operands[0]);
-    if (after != NULL && status == STATUS_GOOD)
-        status = save(after, c, status);
-    return finished(status);
+/* An error ends the run: the case file did not advance, but by checkpoints. */
+static int ended_badly(const struct course *k)
+{
+    if (k->kept > 0)
+        complain("%s: is as it stood after %llu units, at its last checkpoint", k->after->name, (unsigned long long)k->kept);
+    return STATUS_BAD;
+}
+
+/* Prints the line and says the rest. Returns the exit status if the case file can then be written. A run that was interrupted
+   leaves its case file even if nobody reads the line. */
+static int conclude(const struct course *k, const struct ending *e, const struct case_file *c, const struct arguments *a)
+{
+    int printed;
+
+    if (k->why != 0) {
+        complain("%s: the checkpoint after %llu units cannot be written: %s", k->after->name, (unsigned long long)e->units,
+                 strerror(k->why));
+        return STATUS_BAD;
+    }
+    printed = line_is_out(k->to, e);
+    if (k->signal != 0)
+        return interrupted(e, k->signal, a->operands[0]);
+    return printed ? comment_on(e, c, a->operands[0], a->values[QUIET] != NULL) : STATUS_BAD;
+}
+
+/* The line is out before the case file is written: STATUS_BAD means that the file did not advance. */
+static int end_with(const struct course *k, const struct ending *e, const struct case_file *c, const struct arguments *a)
+{
+    int status = conclude(k, e, c, a);
+
+    if (k->after != NULL && status != STATUS_BAD && status != STATUS_REFUSED)
+        status = save_to(k->after, c, status);
+    return status == STATUS_BAD ? ended_badly(k) : status;
+}
+
+/* ---- the sub-command ---- */
+
+/* Finds where the case file after the run goes. */
+static int find_after(const struct arguments *a, struct output *after, struct course *k)
+{
+    if (a->values[AFTER] == NULL && k->every == 0)
+        return GO_ON;
+    if (a->values[AFTER] == NULL) {
+        complain("--checkpoint: needs --after OUT, which is where checkpoints go");
+        return STATUS_BAD;
+    }
+    if (find_output(a->values[AFTER], after) != GO_ON)
+        return STATUS_BAD;
+    if (k->every > 0 && after->descriptor >= 0) {
+        complain("--checkpoint: needs an ordinary file after --after, and %s is none", after->name);
+        release_output(after);
+        return STATUS_BAD;
+    }
+    k->after = after;
+    if (after->descriptor == STDOUT_FILENO)     /* which the case file takes */
+        k->to = stderr;
+    return GO_ON;
+}
+
+/* Loads the case file and runs it, by its own budget if none is asked for. Returns the exit status. */
+static int run_file(const struct arguments *a, uint32_t budget, struct course *k, run_function *run)
+{
+    struct case_file c;
+    struct ending e;
+    int status = load(a->operands[0], &c);
+
+    if (status == STATUS_REFUSED)
+        fputs("R 9\n", k->to);
+    if (status != GO_ON)
+        return finished(status);
+    catch_interrupts();
+    e = run(k->to, &c, a->values[BUDGET] != NULL ? budget : c.budget, k);
+    status = end_with(k, &e, &c, a);
+    release_interrupts();
+    return status;
 }
 
 int run_as_asked(int argc, char **argv, const struct usage *u, run_function *run)
 {
     struct arguments a;
-    struct case_file c;
-    struct ending e;
-    uint32_t units = 0;
-    FILE *to;
+    struct output after;
+    struct course k = {stdout, NULL, 0, 0, 0, 0};
+    uint32_t budget = 0;
     int status = sort_arguments(argc, argv, u, &a);
 
     if (status == GO_ON)
-        status = budget_option(a.values[0], &units);
+        status = units_option(u->options[BUDGET], a.values[BUDGET], 0, &budget);
+    if (status == GO_ON)
+        status = units_option(u->options[CHECKPOINT], a.values[CHECKPOINT], 1, &k.every);
+    if (status == GO_ON)
+        status = find_after(&a, &after, &k);
     if (status != GO_ON)
         return status;
-    to = a.values[1] != NULL && strcmp(a.values[1], "-") == 0 ? stderr : stdout;    /* the case file may take standard output */
-    status = load(a.operands[0], &c);
-    if (status == STATUS_REFUSED)
-        fputs("R 9\n", to);
-    if (status != GO_ON)
-        return finished(status);
-    e = run(to, &c, a.values[0] != NULL ? units : c.budget);
-    return end_with(to, &e, &c, &a);
+    status = run_file(&a, budget, &k, run);
+    if (k.after != NULL)
+        release_output(&after);
+    return status;
 }

@@ -14,16 +14,14 @@
 #define LINE 128
 
 static const struct usage usage = {
-    "trace FILE [--budget N] [--after OUT]",
-    "Runs a case file, or standard input if FILE is -, unit by unit: a run with budget 1, resumed. Prints one line for\n"
-    "each unit completed: its number, the instruction's address and the instruction; the condition code and the CPU timer\n"
-    "after it, the timer in hexadecimal and in microseconds; and, where the next instruction is not the one that follows,\n"
-    "-> and its address: a branch or an interruption of the guest. The last line is the one that run prints.\n\n"
-    "  --budget N       run for N units at most, 0 to 4294967295, instead of the file's budget\n"
-    "  --after OUT      write the case file as it stands after the run, as run does. With OUT -, the case file goes to\n"
-    "                   standard output and all lines go to standard error\n\n"
-    "Exit status: 0, 1 if the run is refused, 2 for bad usage or a file that cannot be read or written.\n",
-    1, {"--budget", "--after"},
+    "trace FILE [--budget N] [--after OUT [--checkpoint N]] [--quiet]",
+    "Runs a case file, or standard input if FILE is -, unit by unit: a run with budget 1, resumed.\n"
+    "Prints one line for each unit completed: its number, the instruction's address and the instruction;\n"
+    "the condition code and the CPU timer after it, the timer in hexadecimal and in microseconds; and,\n"
+    "where the next instruction is not the one that follows, -> and its address: a branch or an\n"
+    "interruption of the guest. The last line is the one that run prints.\n\n"
+    RUN_OPTIONS_HELP,
+    1, RUN_OPTIONS,
 };
 
 /* What a unit starts with: the instruction, or why there is none. */
@@ -53,8 +51,8 @@ static void print_unit(FILE *to, uint64_t number, const struct text *t, const st
     fputc('\n', to);
 }
 
-/* All units, and how the run ended. It stops early if the lines cannot be written. */
-static struct ending trace_units(FILE *to, struct case_file *c, uint32_t units)
+/* All units, as long as the run goes on, and how it ended. */
+static struct ending trace_units(FILE *to, struct case_file *c, uint32_t units, struct course *k)
 {
     struct progress p = progress_of(units);
     struct ending e;
@@ -69,7 +67,7 @@ static struct ending trace_units(FILE *to, struct case_file *c, uint32_t units)
         if (e.units == 1)
             print_unit(to, done, &t, c);
         progress_at(&p, done);
-    } while (e.kind == DREVOKAS_BUDGET_USED && done < units && !ferror(to));
+    } while (e.kind == DREVOKAS_BUDGET_USED && done < units && goes_on(k, c, done));
     progress_over(&p);
     e.units = done;
     return e;

@@ -6,7 +6,7 @@
 
 #include "../command.h"
 
-#define MOST_ARGUMENTS 6
+#define MOST_ARGUMENTS 7
 
 /* FILE and OUT stand for the file named and for one to be written. */
 static const struct {
@@ -20,7 +20,7 @@ static const struct {
     {command_translate, {"translate", "FILE", "ffffffff"}},
     {command_translate, {"translate", "FILE", "1ffe", "--access=store"}},
     {command_explain, {"explain", "FILE", "--pages", "20"}},
-    {command_trace, {"trace", "FILE", "--budget", "30", "--after", "OUT"}},
+    {command_trace, {"trace", "FILE", "--budget", "30", "--after", "OUT", "--checkpoint=7"}},
 };
 
 static char *argument(const char *text, char *file, char *out)

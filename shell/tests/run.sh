@@ -1,7 +1,7 @@
 #!/bin/sh
 # Builds the command and tests it: every sub-command, good and bad input, messages and exit status; all kept case files; runs
-# that are cut and resumed; traces; files that cannot be written; the shell's own statement of the rules against the library;
-# then, under valgrind if it is there, every sub-command that reads a case file on every kept one; and damaged files.
+# that are cut and resumed; traces; files that cannot be written; signals; the shell's own statement of the rules against the
+# library; then, under valgrind if it is there, every sub-command that reads a case file on every kept one; and damaged files.
 # Prints each failure, and a count. Fails if anything fails; a command that does not end by itself is ended, and has failed.
 set -eu
 cd "$(dirname "$0")/../.."
@@ -206,16 +206,17 @@ test_resumption() {
 
 # Budgets over 65,535, and pipes.
 test_slices() {
-    says 0 'B 0 200000' '' run "$FILES/budget_65535.in" --budget 200000 --after "$OUT/whole.after"
+    says 0 'B 0 200000' '' run "$FILES/budget_65535.in" --budget 200000 --after "$OUT/whole.after" --quiet
     cut_at "$FILES/budget_65535.in" 70000 200000
     cut_at "$FILES/budget_65535.in" 131070 200000
-    drevokas run "$FILES/budget_65535.in" --budget 65536 --after - 2> "$OUT/err" |
-        drevokas run - --budget 134464 --after "$OUT/cut.after" > "$OUT/rest"
+    drevokas run "$FILES/budget_65535.in" --budget 65536 --after - --quiet 2> "$OUT/err" |
+        drevokas run - --budget 134464 --after "$OUT/cut.after" --quiet > "$OUT/rest"
     [ "$(cat "$OUT/err")" = 'B 0 65536' ] || fail "run --after -: $(cat "$OUT/err")"
     same "$OUT/cut.after" "$OUT/whole.after" 'run --after - into run -'
-    drevokas trace "$FILES/budget_65535.in" --budget 70000 | tail -n 1 | grep -qx 'B 0 70000' || fail 'trace --budget 70000'
-    drevokas run "$FILES/budget_7.in" --after "$OUT/whole.after" > "$OUT/whole"
-    drevokas trace "$FILES/budget_7.in" --after - 2> "$OUT/err" | cmp -s - "$OUT/whole.after" || fail 'trace --after -'
+    drevokas trace "$FILES/budget_65535.in" --budget 70000 --quiet | tail -n 1 | grep -qx 'B 0 70000' ||
+        fail 'trace --budget 70000'
+    drevokas run "$FILES/budget_7.in" --after "$OUT/whole.after" --quiet > "$OUT/whole"
+    drevokas trace "$FILES/budget_7.in" --after - --quiet 2> "$OUT/err" | cmp -s - "$OUT/whole.after" || fail 'trace --after -'
     [ "$(tail -n 1 "$OUT/err")" = 'B 0 7' ] || fail 'trace --after -: lines'
     tests=$((tests + 3))
 }
@@ -223,16 +224,16 @@ test_slices() {
 # Nothing is left half-written, and what is there stays.
 test_unwritable() {
     mkdir "$OUT/folder"
-    echo kept > "$OUT/folder/old"
-    says 2 'B 0 7' 'none/after.in: cannot be written: No such file' run "$FILES/budget_7.in" --after "$OUT/none/after.in"
-    says 2 'B 0 7' "$OUT/folder: cannot be written: Is a directory" run "$FILES/budget_7.in" --after "$OUT/folder"
-    says 2 'B 0 7' 'cannot be written: No space left' run "$FILES/budget_7.in" --after /dev/full
+    cp "$FILES/ar.in" "$OUT/folder/old"
+    says 2 '' 'none/after.in: cannot be written: No such file' run "$FILES/budget_7.in" --after "$OUT/none/after.in"
+    says 2 '' "$OUT/folder: cannot be written: Is a directory" run "$FILES/budget_7.in" --after "$OUT/folder"
     (failed=0 && ulimit -f 1 &&
         says 2 'B 0 7' 'cannot be written: File too large' run "$FILES/budget_7.in" --after "$OUT/folder/old" &&
         exit "$failed") || fail 'a file that grows too large'
     says 1 'R 2' "the record's version is 2" run "$FILES/record_version_2.in" --after "$OUT/folder/new"
     says 1 'R 9' 'not a case file' run "$FILES/malformed_version_2.in" --after "$OUT/folder/new"
-    [ "$(ls "$OUT/folder")" = old ] && [ "$(cat "$OUT/folder/old")" = kept ] || fail "left behind: $(ls "$OUT/folder")"
+    [ "$(ls -A "$OUT/folder")" = old ] || fail "left behind: $(ls -A "$OUT/folder")"
+    same "$OUT/folder/old" "$FILES/ar.in" 'what was there'
     [ -z "$(find "$OUT" -name '*.??????')" ] || fail "left behind: $(find "$OUT" -name '*.??????')"
     for sub in run check explain trace; do
         status=0
@@ -243,22 +244,30 @@ test_unwritable() {
         [ "$status" -eq 2 ] && grep -q 'standard output cannot be written' "$OUT/err" || fail "$sub >&-"
         tests=$((tests + 2))
     done
-    drevokas run "$FILES/budget_7.in" --after "$OUT/whole.after" > "$OUT/whole"
-    drevokas run "$FILES/budget_7.in" --after "$OUT/cut.after" <&- >&- 2>&- || true
-    same "$OUT/cut.after" "$OUT/whole.after" 'run --after with all standard streams closed'
+    status=0
+    drevokas run "$FILES/budget_7.in" --after "$OUT/folder/old" <&- >&- 2>&- || status=$?
+    [ "$status" -eq 2 ] || fail "run --after with all standard streams closed: exit status $status"
+    same "$OUT/folder/old" "$FILES/ar.in" 'run --after with all standard streams closed'
 }
 
-# A link stands for its file; permissions stay; a file may be run into itself.
+# A link stands for its file; permissions stay; a file may be run into itself. More of it in output_test.py.
 test_after() {
     cp "$FILES/budget_7.in" "$OUT/self.in"
     chmod 640 "$OUT/self.in"
     ln -s self.in "$OUT/link.in"
-    says 0 'B 0 4' '' run "$OUT/self.in" --budget 4 --after "$OUT/link.in"
-    says 0 'B 0 3' '' run "$OUT/link.in" --budget 3 --after "$OUT/self.in"
-    drevokas run "$FILES/budget_7.in" --after "$OUT/whole.after" > "$OUT/whole"
+    says 0 'B 0 4' '' run "$OUT/self.in" --budget 4 --after "$OUT/link.in" --quiet
+    says 0 'B 0 3' '' run "$OUT/link.in" --budget 3 --after "$OUT/self.in" --quiet
+    drevokas run "$FILES/budget_7.in" --after "$OUT/whole.after" --quiet > "$OUT/whole"
     same "$OUT/self.in" "$OUT/whole.after" 'run into itself'
     [ -L "$OUT/link.in" ] || fail 'a link is replaced'
     [ "$(ls -l "$OUT/self.in" | cut -c 1-10)" = -rw-r----- ] || fail "permissions: $(ls -l "$OUT/self.in")"
+}
+
+# Signals, checkpoints, places, names, faults and terminals.
+test_output() {
+    "$CC" $FLAGS -O2 -shared -fPIC -o "$OUT/faults.so" shell/tests/faults.c -ldl
+    timeout 300 python3 shell/tests/output_test.py target/bin/drevokas "$OUT/faults.so" "$OUT/output" || fail output_test.py
+    tests=$((tests + 1))
 }
 
 # The text form; more of it in the examples and in fuzz.sh.
@@ -330,6 +339,7 @@ test_resumption
 test_slices
 test_unwritable
 test_after
+test_output
 test_make
 test_views
 test_programs
