@@ -2,10 +2,7 @@
 # Runs the examples of the documents and compares what they print with what the documents show; check.py says how. Prints a diff
 # for each difference, and a count. Fails if there is a difference.
 set -eu
+. "$(dirname "$0")/../../tools/plain.sh"
 cd "$(dirname "$0")/../.."
 make -s all
-if [ ! -x target/bin/case ]; then
-    echo "tests/docs/run.sh: no target/bin/case; build it first, with rt check case" >&2
-    exit 1
-fi
 python3 tests/docs/check.py README.md docs/*.md
