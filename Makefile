@@ -62,4 +62,6 @@ ifneq ($(filter gate,$(MAKECMDGOALS)),)
 .NOTPARALLEL:
 endif
 .DELETE_ON_ERROR:
+# tools/prove.sh removes the library where it does not get to its end.
+.PRECIOUS: $(LIBRARY) $(PROGRAM)
 .PHONY: all compiler demo gate check-shell check-docs clean help

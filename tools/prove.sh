@@ -15,7 +15,7 @@ mkdir -p target
 rm -f "$LIBRARY"
 trap '[ "$?" -eq 0 ] || rm -f "$LIBRARY"' EXIT
 trap 'exit 1' HUP INT TERM
-echo "Proving the library, $1 crates: some minutes, the first time. What the prover says goes to $LOG."
+echo "Checking the proofs of $1 crates: some minutes, the first time. What the prover says goes to $LOG."
 : > "$LOG"
 sh tools/progress.sh "$LOG" "$1" check case
 sh tools/progress.sh "$LOG" "$1" staticlib drevokas
