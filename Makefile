@@ -24,8 +24,8 @@ target/shell/%.o: shell/%.c $(wildcard shell/*.h) include/drevokas.h Makefile | 
 	@mkdir -p target/shell
 	$(QUIET)$(CC) $(CFLAGS) -c -o $@ $<
 
-# Every proof of the library is checked, which takes some minutes; done only when library or program is missing or older than what
-# they are made from.
+# Every proof of the library is checked, which takes some minutes; done only when library or program is missing or older than
+# what they are made from.
 $(LIBRARY) $(PROGRAM) &: $(PROVED) | compiler
 	@sh tools/group.sh sh tools/prove.sh $(words $(CRATES))
 

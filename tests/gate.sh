@@ -1,7 +1,7 @@
 #!/bin/sh
-# The gate, which make gate runs: the sources' layout; every proof, every must-fail edit and the program, from nothing (rt ci); then
-# the command is built and all tests are run, those in Rust beside the others. The last line is that of rt ci, printed when all has
-# passed; otherwise what failed is named, and the exit status is 1.
+# The gate, which make gate runs: the sources' layout; every proof, every must-fail edit and the program, from nothing (rt ci);
+# then library and command are built and all tests are run, those in Rust beside the others. The last line is that of rt ci,
+# printed when all has passed; otherwise what failed is named, and the exit status is 1.
 set -eu
 . "$(dirname "$0")/../tools/plain.sh"
 cd "$(dirname "$0")/.."

@@ -1,6 +1,6 @@
 #!/bin/sh
-# group.sh COMMAND...: runs a command in a process group of its own. A signal that ends this script ends the whole group, also those
-# in it that ignore the terminal's interrupt because a shell started them beside others.
+# group.sh COMMAND...: runs a command in a process group of its own. A signal that ends this script ends the whole group, also
+# those in it that ignore the terminal's interrupt because a shell started them beside others.
 set -u
 
 # Ends the group and exits: it is asked, and after ten seconds killed.

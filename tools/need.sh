@@ -1,6 +1,6 @@
 #!/bin/sh
-# need.sh COMMAND...: fails, and says what is missing, if one of these commands is not on the PATH. Notes a toolchain that is not
-# the one of toolchain.txt.
+# need.sh COMMAND...: fails, and says what is missing, if one of these commands is not on the PATH. Notes a toolchain that is
+# not the one of toolchain.txt.
 set -eu
 . "$(dirname "$0")/plain.sh"
 cd "$(dirname "$0")/.."

@@ -1,14 +1,15 @@
 #!/bin/sh
-# progress.sh LOG CRATES WORDS...: runs rt with these words. All that it says goes to the end of LOG; printed is a line for each of so
-# many crates, each must-fail edit and each program, with its seconds, and what failed, with the first errors. Ends with the status
-# of rt. Started in the root of the repository.
+# progress.sh LOG CRATES WORDS...: runs rt with these words, from the root of the repository. All that it says goes to the end of
+# LOG; printed is a line for each of so many crates, each must-fail edit and each program, with its seconds, and what failed, with
+# the first errors. Ends with the status of rt.
 set -eu
 log=$1 crates=$2
 shift 2
 edits=$(find crates -path '*/must-fail/*.edit' | wc -l)
 crate=0 edit=0 errors='' count=0 status=2 began=$(date +%s)
 
-# rt works in batches, each of which waits for its slowest: three jobs a processor leave few processors idle. Each takes up to 700 MB.
+# rt works in batches, each of which waits for its slowest: three jobs a processor leave few processors idle. Each takes up to
+# 700 MB, so there are no more than twelve.
 processors=$(nproc)
 RT_JOBS=${RT_JOBS:-$((processors < 4 ? processors * 3 : 12))}
 export RT_JOBS
