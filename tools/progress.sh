@@ -1,7 +1,7 @@
 #!/bin/sh
-# progress.sh LOG CRATES WORDS...: runs rt with these words, from the root of the repository. All that it says goes to the end of
-# LOG; printed is a line for each of so many crates, each must-fail edit and each program, with its seconds, and what failed, with
-# the first errors. Ends with the status of rt.
+# progress.sh LOG CRATES WORDS...: runs rt with these words, from the root of the repository. All that it says goes to the end
+# of LOG; printed is a line for each of so many crates, each must-fail edit and each program, with its seconds, and what failed,
+# with the first errors. Ends with the status of rt.
 set -eu
 log=$1 crates=$2
 shift 2

@@ -8,8 +8,8 @@
     ```sh        commands that are not run.
 
 A document's examples are run in their order, in a folder of their own that has the files of the repository, with target/bin on
-the path. A command in any other block is an error; so are a link to a file that is not there, in a table of theorems the name of
-one that is not in the proofs, and a README.md that does not name the toolchain of toolchain.txt. Prints a diff for each
+the path. A command in any other block is an error; so are a link to a file that is not there, in a table of theorems the name
+of one that is not in the proofs, and a README.md that does not name the toolchain of toolchain.txt. Prints a diff for each
 difference, and a count; fails if there is a difference."""
 import difflib
 import glob

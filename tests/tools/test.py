@@ -149,7 +149,7 @@ class Build(Copy):
     def test_proof_fails(self):
         for words in [["make", "demo"], ["make", "gate"]]:
             printed = self.fails(*words, FAILS="storage")
-            self.assertIn("crate 4 of 22, storage, NOT PROVED (exit 1, 3 s)\n    note: /crates/storage/src/lib.rt:1:31: ", printed)
+            self.assertIn("crate 4 of 22, storage, NOT PROVED (exit 1, 3 s)\n    note: /crates/storage/src/lib.rt:1:", printed)
             self.assertIn("all that it said is in target/", printed)
             self.assertEqual(self.has(LIBRARY), [])
         self.assertNotIn("passed, 0 failed", printed)
