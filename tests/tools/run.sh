@@ -5,4 +5,4 @@ set -eu
 . "$(dirname "$0")/../../tools/plain.sh"
 cd "$(dirname "$0")/../.."
 make -s all
-python3 tests/tools/test.py
+timeout 600 python3 tests/tools/test.py

@@ -2,6 +2,8 @@
 """Tests of the Makefile, of tools/ and of tests/gate.sh in a copy of the repository, where tests/tools/rt and gcc stand in for
 toolchain and compiler and the tests that the gate runs are empty; then of scripts in a strange environment."""
 import os
+import pty
+import select
 import shutil
 import signal
 import subprocess
@@ -36,6 +38,32 @@ def wait_for(what):
     while not what() and time.monotonic() < end:
         time.sleep(0.02)
     return what()
+
+
+def read_terminal(terminal):
+    """What is printed at a terminal until the last process there has ended, or is silent for long."""
+    text = b""
+    try:
+        while select.select([terminal], [], [], SECONDS)[0]:
+            text += os.read(terminal, 4096)
+    except OSError:  # no process has it open
+        pass
+    return text.decode().replace("\r\n", "\n")
+
+
+def exit_status(process):
+    """The exit status of a child; one that does not end is killed."""
+    found = [0, 0]
+
+    def ended():
+        if found[0] == 0:
+            found[:] = os.waitpid(process, os.WNOHANG)
+        return found[0] != 0
+
+    if not wait_for(ended):
+        os.killpg(process, signal.SIGKILL)
+        raise AssertionError("it did not end")
+    return os.waitstatus_to_exitcode(found[1])
 
 
 def is_running(process):
@@ -101,6 +129,15 @@ class Copy(unittest.TestCase):
         self.assertNotEqual(status, 0, printed)
         return printed
 
+    def start_at_terminal(self, *words, **more):
+        """Starts a command at a terminal of its own: process, the terminal's other end."""
+        process, terminal = pty.fork()
+        if process == 0:
+            os.chdir(self.top)
+            os.execvpe(words[0], words, dict(self.environment, **more))
+        self.addCleanup(os.close, terminal)
+        return process, terminal
+
     def calls(self):
         """The calls of the stand-ins since the last look."""
         name = os.path.join(self.store, "calls")
@@ -135,6 +172,13 @@ class Build(Copy):
         os.remove(os.path.join(self.top, PROGRAM))
         self.assertNotIn("crate ", self.passes("make"))
         self.assertEqual(self.has(PROGRAM), [PROGRAM])
+
+    def test_terminal(self):
+        process, terminal = self.start_at_terminal("make", "demo")
+        printed = read_terminal(terminal)
+        self.assertEqual(exit_status(process), 0)
+        self.assertIn("\ncrate 22 of 22, case, 3 s\n", printed)
+        self.assertTrue(printed.endswith("\n" + self.DEMO) and printed.replace("\n", "").isprintable(), printed)
 
     def test_compiler_shown(self):
         self.assertNotIn("-std=c99", self.passes("make"))
@@ -209,23 +253,25 @@ class Gate(Copy):
 
 
 class Interrupted(Copy):
-    def interrupt(self, number, words):
-        """Sends a signal to make and its process group, as a terminal does, while a prover runs."""
-        prover = os.path.join(self.folder, "prover")
-        with subprocess.Popen(words, cwd=self.top, env=dict(self.environment, HANGS=prover), start_new_session=True,
-                              stdin=subprocess.DEVNULL, stdout=subprocess.DEVNULL, stderr=subprocess.DEVNULL) as p:
-            self.assertTrue(wait_for(lambda: os.path.exists(prover) and read(prover).endswith("\n")))
-            process = int(read(prover))
-            self.assertTrue(is_running(process))
-            os.killpg(p.pid, number)
-            self.assertNotEqual(p.wait(SECONDS), 0)
-        os.remove(prover)
-        self.assertTrue(wait_for(lambda: not is_running(process)))
+    def interrupt(self, goal, how):
+        """Ends make by how(process, terminal) while a prover runs: make fails, and neither prover nor library is left."""
+        name = os.path.join(self.folder, "prover")
+        process, terminal = self.start_at_terminal("make", goal, HANGS=name)
+        self.assertTrue(wait_for(lambda: os.path.exists(name) and read(name).endswith("\n")))
+        prover = int(read(name))
+        self.assertTrue(is_running(prover))
+        how(process, terminal)
+        read_terminal(terminal)
+        self.assertNotEqual(exit_status(process), 0)
+        self.assertTrue(wait_for(lambda: not is_running(prover)))
         self.assertEqual(self.has(LIBRARY), [])
+        os.remove(name)
 
     def test_interrupted(self):
-        for name, goal in [("INT", "demo"), ("INT", "gate"), ("TERM", "demo"), ("HUP", "gate")]:
-            self.interrupt(signal.Signals["SIG" + name], ["make", goal])
+        for goal in ["demo", "gate"]:
+            self.interrupt(goal, lambda process, terminal: os.write(terminal, b"\x03"))
+            self.interrupt(goal, lambda process, terminal: os.kill(process, signal.SIGTERM))
+            self.interrupt(goal, lambda process, terminal: os.killpg(process, signal.SIGHUP))
         self.assertTrue(self.passes("make", "demo").endswith(Build.DEMO))
         self.assertTrue(self.passes("make", "gate").endswith("23 passed, 0 failed\n"))
 
