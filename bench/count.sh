@@ -2,6 +2,7 @@
 # Machine instructions a call of translate and check, and a unit of run, counted by callgrind: repeatable, whatever else the machine
 # does. Needs valgrind and the static library.
 set -eu
+. "$(dirname "$0")/../tools/plain.sh"
 cd "$(dirname "$0")"
 . ./library.sh
 build bench_translate

@@ -3,6 +3,7 @@
 # "check.sh update" writes the expected files instead. DREVOKAS names another command. A command that does not end by itself is
 # ended, and has failed.
 set -eu
+. "$(dirname "$0")/../tools/plain.sh"
 DREVOKAS=${DREVOKAS:-$(dirname "$0")/../target/bin/drevokas}
 if [ ! -x "$DREVOKAS" ]; then
     echo "examples/check.sh: no $DREVOKAS; build it first, with make" >&2

@@ -3,6 +3,7 @@
 # the field, a CPU timer that is reloaded at a short host interruption, did. Fails if they do not end alike. DREVOKAS names
 # another command.
 set -eu
+. "$(dirname "$0")/../tools/plain.sh"
 DREVOKAS=${DREVOKAS:-$(dirname "$0")/../target/bin/drevokas}
 if [ ! -x "$DREVOKAS" ]; then
     echo "examples/run.sh: no $DREVOKAS; build it first, with make" >&2

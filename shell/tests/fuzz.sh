@@ -2,6 +2,7 @@
 # Runs make.sh; then damaged texts through make and damaged case files through explain and run, in a build with gcc's sanitizers
 # where they work. SEED repeats a run, COUNT says how many of each. Fails if anything fails.
 set -eu
+. "$(dirname "$0")/../../tools/plain.sh"
 cd "$(dirname "$0")/../.."
 CC=${CC:-gcc}
 FLAGS="-std=c99 -D_POSIX_C_SOURCE=200809L -Wall -Wextra -Werror -pedantic"

@@ -3,6 +3,7 @@
 # valgrind is there. Fails if anything fails. The command is target/bin/drevokas, or $DREVOKAS, seen from the root of the
 # repository.
 set -eu
+. "$(dirname "$0")/../../tools/plain.sh"
 cd "$(dirname "$0")/../.."
 CC=${CC:-gcc}
 FLAGS="-std=c99 -D_POSIX_C_SOURCE=200809L -Wall -Wextra -Werror -pedantic -O2"

@@ -4,6 +4,7 @@
 # library; then, under valgrind if it is there, every sub-command that reads a case file on every kept one; and damaged files.
 # Prints each failure, and a count. Fails if anything fails; a command that does not end by itself is ended, and has failed.
 set -eu
+. "$(dirname "$0")/../../tools/plain.sh"
 cd "$(dirname "$0")/../.."
 CC=${CC:-gcc}
 FLAGS="-std=c99 -D_POSIX_C_SOURCE=200809L -Wall -Wextra -Werror -pedantic"

@@ -2,6 +2,7 @@
 # Builds the C tests against the static library and runs them, those with tests of their own under valgrind too if it is there.
 # Fails if anything fails. LIB names another library, seen from the root of the repository; CC another compiler.
 set -eu
+. "$(dirname "$0")/../../tools/plain.sh"
 cd "$(dirname "$0")/../.."
 CC=${CC:-gcc}
 LIB=${LIB:-target/staticlib/libdrevokas.a}

@@ -2,6 +2,7 @@
 # Compares the kept case files with those that make.py makes, and the line that the program prints for each kept file
 # with its NAME.out. Prints each difference, and a count. The program is target/bin/case, or $CASE.
 set -eu
+. "$(dirname "$0")/../../tools/plain.sh"
 cd "$(dirname "$0")/../.."
 CASE=${CASE:-target/bin/case}
 KEPT=tests/cases/files

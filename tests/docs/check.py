@@ -1,5 +1,5 @@
 #!/usr/bin/env python3
-"""check.py DOCUMENT...: runs the examples of Markdown documents, from the root of the repository.
+"""check.py DOCUMENT...: runs the examples of Markdown documents.
 
     ```console   a line that starts with "$ " is a command; the lines up to the next one are what it prints, on standard output
                  and standard error. A line that is "..." stands for any lines, also none.
@@ -8,8 +8,9 @@
     ```sh        commands that are not run.
 
 A document's examples are run in their order, in a folder of their own that has the files of the repository, with target/bin on
-the path. A command in any other block is an error; so are a link to a file that is not there, and in a table of theorems the name
-of one that is not in the proofs. Prints a diff for each difference, and a count; fails if there is a difference."""
+the path. A command in any other block is an error; so are a link to a file that is not there, in a table of theorems the name
+of one that is not in the proofs, and a README.md that does not name the toolchain of toolchain.txt. Prints a diff for each
+difference, and a count; fails if there is a difference."""
 import difflib
 import glob
 import os
@@ -20,6 +21,8 @@ import tempfile
 
 SECONDS = "60"  # for a command
 ENDED = 124  # the exit status of timeout
+ROOT = os.path.join(os.path.dirname(os.path.abspath(__file__)), "../..")
+PLAIN = ". tools/plain.sh\n"  # before each command
 COMPILE = ["gcc", "-std=c99", "-Wall", "-Wextra", "-Werror", "-pedantic", "-fsyntax-only", "-Iinclude"]
 examples = differ = 0
 
@@ -74,7 +77,7 @@ def run_command(folder, place, command, shown):
     global examples
     examples += 1
     path = os.path.join(folder, "target/bin") + os.pathsep + os.environ["PATH"]
-    p = subprocess.run(["timeout", SECONDS, "sh", "-c", command], cwd=folder, env=dict(os.environ, PATH=path),
+    p = subprocess.run(["timeout", SECONDS, "sh", "-c", PLAIN + command], cwd=folder, env=dict(os.environ, PATH=path),
                        stdin=subprocess.DEVNULL, stdout=subprocess.PIPE, stderr=subprocess.STDOUT)
     printed = p.stdout.decode(errors="replace").splitlines()
     if p.returncode == ENDED:
@@ -91,7 +94,7 @@ def compile_program(folder, place, lines):
     if not name:
         fail(place, "a program must start with /* NAME.c: ... */")
         return
-    with open(os.path.join(folder, name[1]), "w") as file:
+    with open(os.path.join(folder, name[1]), "w", encoding="utf-8") as file:
         file.write("\n".join(lines) + "\n")
     p = subprocess.run([*COMPILE, name[1]], cwd=folder, stdout=subprocess.PIPE, stderr=subprocess.STDOUT)
     if p.returncode != 0:
@@ -102,7 +105,7 @@ def proved():
     """The names of the laws in the proofs."""
     names = set()
     for file in glob.glob("crates/*/proofs/**/*.antt", recursive=True):
-        with open(file) as lines:
+        with open(file, encoding="utf-8") as lines:
             names.update(re.findall(r"^ *(?:pub )?([^\s:]+) :", lines.read(), re.M))
     return names
 
@@ -121,8 +124,16 @@ def check_text(document, lines):
                     fail(document, f"no proof of {name}")
 
 
+def check_toolchain():
+    """README.md names the toolchain and its version."""
+    with open("toolchain.txt", encoding="utf-8") as file, open("README.md", encoding="utf-8") as readme:
+        toolchain = file.read().strip()
+        if toolchain not in " ".join(readme.read().split()):
+            fail("README.md", f"the toolchain, {toolchain}, is not named")
+
+
 def check(document):
-    with open(document) as file:
+    with open(document, encoding="utf-8") as file:
         lines = file.read().splitlines()
     with tempfile.TemporaryDirectory() as folder:
         for name in os.listdir("."):
@@ -141,8 +152,11 @@ def check(document):
                 check_text(document, block)
 
 
+documents = [os.path.relpath(name, ROOT) for name in sys.argv[1:]]
+os.chdir(ROOT)
 PROVED = proved()
-for document in sys.argv[1:]:
+check_toolchain()
+for document in documents:
     check(document)
-print(f"{examples} examples in {len(sys.argv) - 1} documents, {differ} differ")
+print(f"{examples} examples in {len(documents)} documents, {differ} differ")
 sys.exit(differ != 0)

@@ -2,6 +2,7 @@
 # Mutates the model in many small ways and checks that `compare`, with its default cases and seed, finds each.
 # Not in the gate. Takes some minutes. With arguments: only the mutants whose names contain one of these words.
 set -u
+. "$(dirname "$0")/../../tools/plain.sh"
 package=$(cd "$(dirname "$0")" && pwd)
 DREVOKAS_LIB=$(cd "${DREVOKAS_LIB:-$package/../../target/staticlib}" && pwd) || exit 2
 export DREVOKAS_LIB

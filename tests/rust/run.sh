@@ -1,6 +1,7 @@
 #!/bin/sh
 # Builds the tests against the static library and runs them: worked examples, library against model, isolation, resumption.
 set -eu
+. "$(dirname "$0")/../../tools/plain.sh"
 cd "$(dirname "$0")"
 CARGO_TARGET_DIR=../../target/rust
 export CARGO_TARGET_DIR

@@ -1,0 +1,58 @@
+#!/bin/sh
+# The gate, which make gate runs: the sources' layout; every proof, every must-fail edit and the program, from nothing (rt ci);
+# then library and command are built and all tests are run, those in Rust beside the others. The last line is that of rt ci,
+# printed when all has passed; otherwise what failed is named, and the exit status is 1.
+set -eu
+. "$(dirname "$0")/../tools/plain.sh"
+cd "$(dirname "$0")/.."
+unset CASE CC COUNT DREVOKAS DREVOKAS_LIB FLAGS LIB SEED
+LOG=target/gate.log
+failed=''
+
+# part NAME COMMAND...: runs a part, and says how it ended.
+part() {
+    name=$1 began=$(date +%s) ended=passed
+    shift
+    echo "gate: $name"
+    "$@" || ended=FAILED
+    echo "gate: $name $ended, $(($(date +%s) - began)) s"
+    [ "$ended" = passed ] || failed="$failed $name"
+}
+
+# Ends the gate if a part has failed.
+stop_if_failed() {
+    [ -n "$failed" ] || return 0
+    echo "gate: failed:$failed" >&2
+    exit 1
+}
+
+install_valgrind() {
+    apt-get update -qq && apt-get install -y -qq valgrind
+}
+
+# What the tests in Rust, which were started before, have printed.
+rust_tests() {
+    rust_status=0
+    wait "$rust" || rust_status=$?
+    cat target/rust.log
+    return "$rust_status"
+}
+
+sh tools/need.sh rt gcc python3 cargo
+command -v valgrind > /dev/null || part 'installation of valgrind' install_valgrind
+part layout rt fmt --check
+stop_if_failed
+crates=$(grep -c '^[a-z]' crates.txt)
+echo "gate: about a quarter of an hour on two processors; what the prover says goes to $LOG"
+part 'proofs and must-fail edits' sh tools/progress.sh "$LOG" "$crates" ci
+stop_if_failed
+part build make all
+stop_if_failed
+sh tests/rust/run.sh > target/rust.log 2>&1 &
+rust=$!
+for folder in tests/cases tests/c tests/tools shell/tests tests/docs; do
+    part "$folder" sh "$folder/run.sh"
+done
+part tests/rust rust_tests
+stop_if_failed
+tail -n 1 "$LOG"
