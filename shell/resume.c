@@ -4,6 +4,7 @@
 
 #include "../include/drevokas.h"
 #include "command.h"
+#include "ending.h"
 #include "progress.h"
 #include "words.h"
 
@@ -49,19 +50,14 @@ static void print_line(FILE *to, const struct ending *e)
         fprintf(to, "%c %u %llu\n", "RIHB"[e->kind & 3], (unsigned)e->number, (unsigned long long)e->units);
 }
 
-/* What the line does not say: why the file was refused, or where a host fault happened. Returns the exit status. */
+/* How the run ended, in words. Returns the exit status. */
 static int comment_on(const struct ending *e, const struct case_file *c, const char *name)
 {
     char text[SENTENCE];
 
-    if (e->kind == DREVOKAS_HOST_FAULT)
-        complain("%s: host fault %02x hex, %s, at host address %08llx hex", name, (unsigned)e->number, program_words(e->number),
-                 (unsigned long long)e->where);
-    if (e->kind != DREVOKAS_REFUSED)
-        return STATUS_GOOD;
-    refusal_sentence(e->number, c, text, sizeof text);
-    complain("%s: refused: %s", name, text);
-    return STATUS_REFUSED;
+    ending_sentence(e, c, text);
+    complain("%s: %s", name, text);
+    return e->kind == DREVOKAS_REFUSED ? STATUS_REFUSED : STATUS_GOOD;
 }
 
 static int end_with(FILE *to, const struct ending *e, const struct case_file *c, const struct arguments *a)

@@ -1,9 +1,13 @@
 #include "words.h"
 
+#include <stdarg.h>
 #include <stdio.h>
 #include <string.h>
 
+#include "../include/drevokas.h"
 #include "fields.h"
+
+#define PARAGRAPH (2 * SENTENCE)      /* room for what print_from prints at once */
 
 struct word {
     unsigned number;
@@ -20,6 +24,11 @@ static const struct word program_codes[] = {
     {0x10, "segment translation"},
     {0x11, "page translation"},
     {0x12, "translation specification"},
+};
+
+static const struct word external_codes[] = {
+    {0x1004, "clock comparator"},
+    {0x1005, "CPU timer"},
 };
 
 static const struct word interception_codes[] = {
@@ -44,14 +53,39 @@ static const char *look_up(const struct word *words, size_t count, unsigned numb
     return "not a code of this machine";
 }
 
+void add(char text[SENTENCE], const char *format, ...)
+{
+    size_t length = strlen(text);
+    va_list arguments;
+
+    va_start(arguments, format);
+    vsnprintf(text + length, SENTENCE - length, format, arguments);
+    va_end(arguments);
+}
+
 const char *program_words(unsigned code)
 {
     return look_up(program_codes, sizeof program_codes / sizeof *program_codes, code);
 }
 
+int is_translation(uint64_t code)
+{
+    return code == DREVOKAS_SEGMENT_TRANSLATION || code == DREVOKAS_PAGE_TRANSLATION;
+}
+
 const char *interception_words(unsigned code)
 {
     return look_up(interception_codes, sizeof interception_codes / sizeof *interception_codes, code);
+}
+
+const char *external_words(unsigned code)
+{
+    return look_up(external_codes, sizeof external_codes / sizeof *external_codes, code);
+}
+
+const char *plural(uint64_t number)
+{
+    return number == 1 ? "" : "s";
 }
 
 static unsigned long long field(const uint8_t *record, const char *name)
@@ -102,9 +136,37 @@ int entry_sentence(const uint8_t *record, char *text, size_t room)
         snprintf(text, room, "origin %lu and extent %lu are %lu blocks together, and must be 32768 at most", origin, extent,
                  origin + extent);
     else if (prefix + 4096 > extent * 65536)
-        snprintf(text, room, "prefix: the block at %08lx hex is not below the extent, which ends at %08lx hex", prefix,
+        snprintf(text, room, "prefix: the block at %08lx is not below the extent, which ends at %08lx", prefix,
                  extent * 65536);
     return text[0] != '\0';
+}
+
+/* How many characters of the text fit into a line of this room: up to a blank, or all that fit where there is none. */
+static size_t fitting(const char *text, size_t room)
+{
+    size_t length = strlen(text), at = room;
+
+    if (length <= room)
+        return length;
+    while (at > 0 && text[at] != ' ')
+        at--;
+    return at > 0 ? at : room;
+}
+
+void print_from(unsigned column, const char *format, ...)
+{
+    char text[PARAGRAPH], *at = text;
+    size_t length;
+    va_list arguments;
+
+    va_start(arguments, format);
+    vsnprintf(text, sizeof text, format, arguments);
+    va_end(arguments);
+    while (length = fitting(at, WIDTH - column), at[length] != '\0') {
+        printf("%.*s\n%*s", (int)length, at, (int)column, "");
+        at += length + strspn(at + length, " ");
+    }
+    puts(at);
 }
 
 void microseconds(int negative, uint64_t units, char *text, size_t room)
