@@ -54,11 +54,11 @@ static void add_doer(const struct text *t, char *text)
     unsigned long at = (unsigned long)psw_address(t->psw);
 
     if (wrong != NULL)
-        add(text, ", at %08lx: PSW malformed, %s", at, wrong);
+        add(text, ", PSW malformed: %s, at %08lx", wrong, at);
     else if (at % 2 != 0)
-        add(text, ", at %08lx: an odd address", at);
+        add(text, ", at the odd address %08lx", at);
     else if (!is_whole(t))
-        add(text, ", at %08lx: the instruction could not be fetched", at);
+        add(text, ", in fetching the instruction at %08lx", at);
     else {
         add(text, ", by ");
         add_instruction(t, text);

@@ -110,8 +110,8 @@ static int explain(const struct case_file *c, const char *name, uint64_t lines)
     explain_instruction(c);
     if (unit.kind != DREVOKAS_REFUSED)
         return STATUS_GOOD;
-    refusal_sentence(unit.number, c, text, sizeof text);
-    complain("%s: refused: %s", name, text);
+    ending_sentence(&unit, &after, text);
+    complain("%s: %s", name, text);
     return STATUS_REFUSED;
 }
 

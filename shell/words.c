@@ -141,16 +141,25 @@ int entry_sentence(const uint8_t *record, char *text, size_t room)
     return text[0] != '\0';
 }
 
-/* How many characters of the text fit into a line of this room: up to a blank, or all that fit where there is none. */
+/* The last blank up to this place that follows one of these characters, or any character if they are NULL; 0 if there is none. */
+static size_t last_blank(const char *text, size_t at, const char *after)
+{
+    while (at > 0 && (text[at] != ' ' || (after != NULL && strchr(after, text[at - 1]) == NULL)))
+        at--;
+    return at;
+}
+
+/* How many characters of the text go into a line of this room: all, or up to a blank, by choice one between two parts of a
+   sentence. */
 static size_t fitting(const char *text, size_t room)
 {
-    size_t length = strlen(text), at = room;
+    size_t length = strlen(text), part, word;
 
     if (length <= room)
         return length;
-    while (at > 0 && text[at] != ' ')
-        at--;
-    return at > 0 ? at : room;
+    part = last_blank(text, room, ",;:");
+    word = last_blank(text, room, NULL);
+    return part > room / 2 ? part : word > 0 ? word : room;
 }
 
 void print_from(unsigned column, const char *format, ...)
