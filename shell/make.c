@@ -13,7 +13,7 @@
 static const char help[] =
     "Builds a case file from the text form in TEXT, or in standard input if TEXT is -. The case file goes to\n"
     "OUT, or to standard output if that is no terminal. Nothing is written if the text has an error; each\n"
-    "error is reported as FILE:LINE: message.\n"
+    "error is reported as FILE:LINE: message. A text has 1 MiB (1048576 bytes) at most.\n"
     "\n"
     "  -o OUT             where the case file goes\n"
     "  --from CASE        starts from this case file: what the text does not say stays as it is there, and\n"

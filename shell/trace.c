@@ -23,7 +23,7 @@ static const struct usage usage = {
     "one line for each unit completed: its number, the instruction's address and the instruction; the\n"
     "condition code and the CPU timer after it, the timer in hexadecimal and in microseconds; then what\n"
     "else happened:\n"
-    "  gr1=00000009                     the register that changed, and its value now; LCTL may change more\n"
+    "  gr1=00000009                     the register that changed, with its new value; LCTL: the first\n"
     "  operand 00000218                 the logical address of the operand in storage\n"
     "  program interruption 11 hex, address 00003000\n"
     "  SVC interruption 5               the unit ended in an interruption of the guest\n"
