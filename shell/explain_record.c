@@ -152,7 +152,7 @@ static void epoch_words(const uint8_t *record, uint64_t value, char *text)
 
     (void)record;
     signed_microseconds(value, time, sizeof time);
-    add(text, "epoch difference, host clock to guest clock: %s us", time);
+    add(text, "epoch difference to the host clock: %s us", time);
 }
 
 static void svc_words(const uint8_t *record, uint64_t value, char *text)
