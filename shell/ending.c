@@ -6,11 +6,6 @@
 #include "fields.h"
 #include "psw.h"
 
-static uint64_t field(const struct case_file *c, const char *name)
-{
-    return get_field(c->record, find_field(name));
-}
-
 /* ---- where ---- */
 
 int ended_by_instruction(const struct ending *e)
@@ -23,12 +18,12 @@ int ended_by_instruction(const struct ending *e)
 /* Bytes by which the end advanced the PSW's address. The ILC is zero but for the codes 4, 8 and 44. */
 static uint32_t advanced(const struct case_file *c)
 {
-    return is_translation(field(c, "interruption")) ? 0 : 2 * (uint32_t)field(c, "ilc");
+    return is_translation(field_of(c->record, "interruption")) ? 0 : 2 * (uint32_t)field_of(c->record, "ilc");
 }
 
 struct text ending_text(const struct case_file *c)
 {
-    uint64_t psw = field(c, "psw");
+    uint64_t psw = field_of(c->record, "psw");
     uint32_t back = advanced(c);
 
     if (back != 0)
@@ -69,11 +64,11 @@ static void add_doer(const struct text *t, char *text)
 
 static void add_program_cause(const struct case_file *c, char *text)
 {
-    unsigned code = (unsigned)field(c, "interruption");
+    unsigned code = (unsigned)field_of(c->record, "interruption");
 
     add(text, "program exception %02x hex, %s", code, program_words(code));
     if (is_translation(code))
-        add(text, ", address %08lx", (unsigned long)field(c, "address"));
+        add(text, ", address %08lx", (unsigned long)field_of(c->record, "address"));
 }
 
 static void add_validity_cause(const struct case_file *c, char *text)
@@ -83,13 +78,13 @@ static void add_validity_cause(const struct case_file *c, char *text)
     if (entry_sentence(c->record, entry, sizeof entry))
         add(text, "validity, %s", entry);
     else
-        add(text, "validity, PSW %s", psw_not_installed(field(c, "psw")));
+        add(text, "validity, PSW %s", psw_not_installed(field_of(c->record, "psw")));
 }
 
 /* Why the run was intercepted with this code. */
 static void add_interception_cause(unsigned code, const struct case_file *c, char *text)
 {
-    unsigned external = (unsigned)field(c, "interruption");
+    unsigned external = (unsigned)field_of(c->record, "interruption");
 
     add(text, "code %u: ", code);
     switch (code) {
@@ -115,7 +110,8 @@ void add_cause(const struct ending *e, const struct case_file *c, char text[SENT
     if (e->kind == DREVOKAS_INTERCEPTED)
         add_interception_cause(number, c, text);
     else
-        add(text, "host fault %02x hex, %s, at host address %08llx", number, program_words(number), (unsigned long long)e->where);
+        add(text, "host fault %02x hex, %s, at host address %08llx", number, program_words(number),
+            (unsigned long long)e->where);
 }
 
 /* ---- the sentence ---- */

@@ -78,7 +78,7 @@ static void explain_entry(const struct case_file *c, uint64_t check, const struc
 
 static void explain_instruction(const struct case_file *c)
 {
-    struct text t = fetch_text(c, get_field(c->record, find_field("psw")));
+    struct text t = fetch_text(c, field_of(c->record, "psw"));
     char line[SENTENCE], hex[2 * MOST_TEXT + 3] = "";
     unsigned i;
 

@@ -43,7 +43,7 @@ static void add_bits(char *text, const char *what, uint64_t value, const struct 
 
 static unsigned code_of(const uint8_t *record)
 {
-    return (unsigned)get_field(record, find_field("code"));
+    return (unsigned)field_of(record, "code");
 }
 
 static void length_words(const uint8_t *record, uint64_t value, char *text)
@@ -208,7 +208,7 @@ static void interruption_words(const uint8_t *record, uint64_t value, char *text
 
 static void address_words(const uint8_t *record, uint64_t value, char *text)
 {
-    if (code_of(record) == 8 && is_translation(get_field(record, find_field("interruption"))))
+    if (code_of(record) == 8 && is_translation(field_of(record, "interruption")))
         add(text, "address: that of the virtual page without a translation");
     else
         add(text, "address: %s", none_or_meaningless(value));

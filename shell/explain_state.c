@@ -8,11 +8,6 @@
 
 #define TIMER_WORDS 38      /* column from which the words on a timer stand */
 
-static uint64_t field(const struct case_file *c, const char *name)
-{
-    return get_field(c->record, find_field(name));
-}
-
 /* ---- PSW ---- */
 
 /* The bits of a PSW before the address: what they are called, and what zero and one mean where it is one bit. */
@@ -59,7 +54,7 @@ static void print_psw_field(uint64_t psw, size_t i)
 
 void explain_psw(const struct case_file *c)
 {
-    uint64_t psw = field(c, "psw");
+    uint64_t psw = field_of(c->record, "psw");
     const char *wrong = psw_not_installed(psw);
     size_t i;
 
@@ -81,7 +76,8 @@ void explain_psw(const struct case_file *c)
 /* A time, whether its external interruption is due, and whether the guest is enabled for it. */
 static void print_due(const struct case_file *c, const char *time, int due, unsigned mask_bit)
 {
-    int psw_open = psw_bits(field(c, "psw"), 7, 7) != 0, mask_open = (field(c, "cr0") & 0x80000000u >> mask_bit) != 0;
+    int psw_open = psw_bits(field_of(c->record, "psw"), 7, 7) != 0;
+    int mask_open = (field_of(c->record, "cr0") & 0x80000000u >> mask_bit) != 0;
 
     if (!due)
         print_from(TIMER_WORDS, "%s: not due", time);
@@ -95,7 +91,8 @@ static void print_due(const struct case_file *c, const char *time, int due, unsi
 
 void explain_timers(const struct case_file *c)
 {
-    uint64_t timer = field(c, "timer"), comparator = field(c, "comparator"), clock = c->clock + field(c, "epoch");
+    uint64_t timer = field_of(c->record, "timer"), comparator = field_of(c->record, "comparator");
+    uint64_t clock = c->clock + field_of(c->record, "epoch");
     char time[SENTENCE];
 
     printf("\nTimers, in hex and in microseconds\n");
@@ -123,7 +120,7 @@ static void print_four(const struct case_file *c, const char *kind, unsigned fir
         char name[16];
 
         snprintf(name, sizeof name, "%s%u", kind, i);
-        printf("  %08lx", (unsigned long)field(c, name));
+        printf("  %08lx", (unsigned long)field_of(c->record, name));
     }
     putchar('\n');
 }
@@ -155,7 +152,7 @@ static void print_bit(unsigned long cr0, unsigned bit, const char *name, const c
 
 void explain_registers(const struct case_file *c)
 {
-    unsigned long cr0 = (unsigned long)field(c, "cr0"), cr1 = (unsigned long)field(c, "cr1");
+    unsigned long cr0 = (unsigned long)field_of(c->record, "cr0"), cr1 = (unsigned long)field_of(c->record, "cr1");
 
     printf("\nControl registers\n");
     print_sixteen(c, "cr");

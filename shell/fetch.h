@@ -22,7 +22,7 @@ int is_whole(const struct text *t);
 /* The instruction in assembler, or in parentheses why it is not there. */
 void text_words(const struct text *t, char *line, size_t room);
 
-/* The same for a column of COLUMN characters: where there is no instruction that a unit could start with, only what is wrong. */
+/* The same for a column of COLUMN characters: where no unit could start with an instruction, only what is wrong. */
 #define COLUMN 22
 void text_column(const struct text *t, char *line, size_t room);
 

@@ -44,11 +44,6 @@ struct trace {
     struct case_file before;
 };
 
-static uint64_t field(const struct case_file *c, const char *name)
-{
-    return get_field(c->record, find_field(name));
-}
-
 /* ---- columns ---- */
 
 /* Number, address and instruction; the condition code is that of c. */
@@ -58,7 +53,7 @@ static void print_columns(const struct trace *r, const char *number, const struc
 
     text_column(t, line, sizeof line);
     fprintf(r->to, "%*s  %08lx  %-*s  cc %u", r->width, number, (unsigned long)psw_address(t->psw), COLUMN, line,
-            psw_bits(field(c, "psw"), 18, 19));
+            psw_bits(field_of(c->record, "psw"), 18, 19));
 }
 
 /* In hex, exactly; and in microseconds, as many places as the column holds. */
@@ -126,9 +121,9 @@ static void print_interruption(const struct trace *r, const struct text *t)
     struct case_file probe;
 
     if (is_program_interruption(r, &probe)) {
-        fprintf(r->to, "  program interruption %02lx hex", (unsigned long)field(&probe, "interruption"));
-        if (is_translation(field(&probe, "interruption")))
-            fprintf(r->to, ", address %08lx", (unsigned long)field(&probe, "address"));
+        fprintf(r->to, "  program interruption %02lx hex", (unsigned long)field_of(probe.record, "interruption"));
+        if (is_translation(field_of(probe.record, "interruption")))
+            fprintf(r->to, ", address %08lx", (unsigned long)field_of(probe.record, "address"));
         if (wrong != NULL)
             fprintf(r->to, ", PSW %s", wrong);
     } else if (t->bytes[0] == SVC)
@@ -140,13 +135,13 @@ static void print_interruption(const struct trace *r, const struct text *t)
 /* The unit that left c. */
 static void print_unit(const struct trace *r, uint64_t number, const struct case_file *c)
 {
-    struct text t = fetch_text(&r->before, field(&r->before, "psw"));
-    uint32_t next = psw_address(field(c, "psw"));
+    struct text t = fetch_text(&r->before, field_of(r->before.record, "psw"));
+    uint32_t next = psw_address(field_of(c->record, "psw"));
     char digits[24];
 
     snprintf(digits, sizeof digits, "%llu", (unsigned long long)number);
     print_columns(r, digits, &t, c);
-    print_timer(r, field(c, "timer"));
+    print_timer(r, field_of(c->record, "timer"));
     print_registers(r, c);
     print_operand(r, &t);
     print_interruption(r, &t);

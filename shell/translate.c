@@ -41,7 +41,7 @@ static int access_kind(const char *name, uint32_t *access)
 /* Whether the digits might be meant in binary, by a prefix that elsewhere means it. */
 static int may_be_binary(const char *text)
 {
-    return text[0] == '0' && (text[1] == 'b' || text[1] == 'B') && text[2] != '\0' && strspn(text + 2, "01") == strlen(text + 2);
+    return text[0] == '0' && (text[1] == 'b' || text[1] == 'B') && text[2] != '\0' && text[2 + strspn(text + 2, "01")] == '\0';
 }
 
 static int address_of(const char *text, uint64_t *address)

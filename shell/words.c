@@ -88,25 +88,22 @@ const char *plural(uint64_t number)
     return number == 1 ? "" : "s";
 }
 
-static unsigned long long field(const uint8_t *record, const char *name)
-{
-    return get_field(record, find_field(name));
-}
-
 void refusal_sentence(unsigned number, const struct case_file *c, char *text, size_t room)
 {
     switch (number) {
     case 1:
-        snprintf(text, room, "the record's length field is %llu, and must be 200", field(c->record, "length"));
+        snprintf(text, room, "the record's length field is %lu, and must be 200",
+                 (unsigned long)field_of(c->record, "length"));
         break;
     case 2:
-        snprintf(text, room, "the record's version is %llu, and must be 1", field(c->record, "version"));
+        snprintf(text, room, "the record's version is %lu, and must be 1", (unsigned long)field_of(c->record, "version"));
         break;
     case 6:
         snprintf(text, room, "the time per unit is %lu clock units, and must be 1048576 at most", (unsigned long)c->time);
         break;
     case 7:
-        snprintf(text, room, "bytes 66-71 of the record are %012llx hex, and must be zero", field(c->record, "reserved"));
+        snprintf(text, room, "bytes 66-71 of the record are %012llx hex, and must be zero",
+                 (unsigned long long)field_of(c->record, "reserved"));
         break;
     case 9:
         snprintf(text, room, "case file malformed");
@@ -119,9 +116,9 @@ void refusal_sentence(unsigned number, const struct case_file *c, char *text, si
 
 int entry_sentence(const uint8_t *record, char *text, size_t room)
 {
-    unsigned mode = (unsigned)field(record, "mode");
-    unsigned long origin = (unsigned long)field(record, "origin"), extent = (unsigned long)field(record, "extent");
-    unsigned long prefix = (unsigned long)field(record, "prefix") & 0x7ffff000;
+    unsigned mode = (unsigned)field_of(record, "mode");
+    unsigned long origin = (unsigned long)field_of(record, "origin"), extent = (unsigned long)field_of(record, "extent");
+    unsigned long prefix = (unsigned long)field_of(record, "prefix") & 0x7ffff000;
 
     text[0] = '\0';
     if ((mode & 0x0c) != 0x08)
@@ -141,7 +138,7 @@ int entry_sentence(const uint8_t *record, char *text, size_t room)
     return text[0] != '\0';
 }
 
-/* The last blank up to this place that follows one of these characters, or any character if they are NULL; 0 if there is none. */
+/* The last blank up to this place that follows one of these characters, or any if they are NULL; 0 if there is none. */
 static size_t last_blank(const char *text, size_t at, const char *after)
 {
     while (at > 0 && (text[at] != ' ' || (after != NULL && strchr(after, text[at - 1]) == NULL)))

@@ -34,7 +34,7 @@ void refusal_sentence(unsigned number, const struct case_file *c, char *text, si
 /* The entry test that this record fails first. Returns 0 if all pass, and then text is empty. */
 int entry_sentence(const uint8_t *record, char *text, size_t room);
 
-/* Prints the rest of a line, from this column on. What does not fit into WIDTH columns goes on in further lines, from there on. */
+/* Prints the rest of a line, from this column on. What does not fit into WIDTH columns goes on in further lines. */
 #define WIDTH 100
 void print_from(unsigned column, const char *format, ...) __attribute__((format(printf, 2, 3)));
 

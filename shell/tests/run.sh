@@ -63,11 +63,12 @@ same() {
     cmp -s "$1" "$2" || fail "$3: $1 and $2 differ"
 }
 
-# shows NAME ARGUMENT...: standard output is the kept one of this name.
+# shows NAME ARGUMENT...: standard output is the kept one of this name. With UPDATE set it is kept anew.
 shows() {
     kept=$EXPECTED/$1
     shift
     call "$@"
+    [ -z "${UPDATE:-}" ] || cp "$OUT/out" "$kept"
     cmp -s "$OUT/out" "$kept" || fail "$*: the output is not $kept"
 }
 
