@@ -49,7 +49,8 @@ static unsigned code_of(const uint8_t *record)
 static void length_words(const uint8_t *record, uint64_t value, char *text)
 {
     (void)record;
-    add(text, "%llu byte%s%s", (unsigned long long)value, plural(value), value == 200 ? "" : ": must be 200, so the record is refused (R 1)");
+    add(text, "%llu byte%s%s", (unsigned long long)value, plural(value),
+        value == 200 ? "" : ": must be 200, so the record is refused (R 1)");
 }
 
 static void version_words(const uint8_t *record, uint64_t value, char *text)

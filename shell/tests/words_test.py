@@ -4,6 +4,7 @@ for word; then every kept case file: the columns stand in line, run and trace en
 trace shows are those that a run of one unit changed. Prints each failure, and a count; fails if there is one."""
 import glob
 import os
+import pty
 import re
 import subprocess
 import sys
@@ -182,6 +183,30 @@ def test_wide_numbers():
     expect(all(re.match(r" {7}[1-9]  [0-9a-f]{8}  ", n) for n in lines), f"budget of eight digits: {lines[0]}")
 
 
+def on_terminal(*arguments):
+    """The lines that the command prints where standard output and standard error are one terminal."""
+    master, terminal = pty.openpty()
+    p = subprocess.Popen([COMMAND, *arguments], stdin=subprocess.DEVNULL, stdout=terminal, stderr=terminal)
+    os.close(terminal)
+    printed = b""
+    try:
+        while part := os.read(master, 65536):
+            printed += part
+    except OSError:  # the end of a terminal that nobody holds
+        pass
+    os.close(master)
+    p.wait(timeout=20)
+    return printed.decode().replace("\r\n", "\n").split("\n")
+
+
+def test_terminal():
+    """The sentence is the last line on a terminal."""
+    file = os.path.join(FILES, "host_17_load.in")
+    said = call("run", file)[2].rstrip("\n")
+    for sub in ("run", "trace"):
+        expect(on_terminal(sub, file)[-3:] == ["H 17 1", said, ""], f"{sub} on a terminal: {on_terminal(sub, file)}")
+
+
 def test_one(folder):
     """One of a thing is not called as many are."""
     name = os.path.join(folder, "one.case")
@@ -198,5 +223,6 @@ with tempfile.TemporaryDirectory() as place:
     test_wrapped_back(place)
     test_kept(place)
 test_wide_numbers()
+test_terminal()
 print(f"{tests} tests of words, {failed} failed")
 sys.exit(failed != 0)
