@@ -98,7 +98,7 @@ static void print_sharers(const struct sharing *s, const struct range *r)
 
     if (others == 0)
         return;
-    printf(";\n%21sshared with", "");
+    printf("; shared with");
     for (i = 0; i < NAMED && i < s->count; i++) {
         if (s->first[i] >= r->from && s->first[i] < r->to)
             continue;
