@@ -15,11 +15,16 @@ OUT=$(mktemp -d)
 trap 'rm -rf "$OUT"' EXIT
 trap 'exit 1' HUP INT TERM
 
+# run ARGUMENT...: the line of a run; its sentence is shown only if the run fails.
+run() {
+    "$DREVOKAS" run "$@" 2> "$OUT/said" || { cat "$OUT/said" >&2; exit 1; }
+}
+
 echo "The batch guest (batch.txt) gives a job 20 microseconds of CPU time. A unit takes 1 microsecond, so the CPU timer is"
 echo "negative, and the host gets control, after 21 units."
 echo
 "$DREVOKAS" make batch.txt -o "$OUT/batch.case"
-line=$("$DREVOKAS" run "$OUT/batch.case" --after "$OUT/whole.case")
+line=$(run "$OUT/batch.case" --after "$OUT/whole.case")
 echo "In one run:                     $line"
 set -- $line
 whole="$1 $2 $3"
@@ -30,7 +35,7 @@ runs=0
 units=0
 end=B
 while [ "$end" = B ] && [ "$runs" -lt 1000 ]; do
-    line=$("$DREVOKAS" run "$OUT/cut.case" --budget 1 --after "$OUT/cut.case")
+    line=$(run "$OUT/cut.case" --budget 1 --after "$OUT/cut.case")
     set -- $line
     end=$1
     units=$((units + $3))
@@ -41,9 +46,9 @@ echo "Interrupted at every unit:      $cut    ($((runs - 1)) interruptions; the 
 
 # the fault: the host interrupts the job at its last microsecond, and the timer is reloaded
 echo "timer = 20us" > "$OUT/reload.txt"
-"$DREVOKAS" run "$OUT/batch.case" --budget 20 --after "$OUT/fault.case" > /dev/null
+run "$OUT/batch.case" --budget 20 --after "$OUT/fault.case" > /dev/null
 "$DREVOKAS" make "$OUT/reload.txt" --from "$OUT/fault.case" -o "$OUT/fault.case"
-line=$("$DREVOKAS" run "$OUT/fault.case")
+line=$(run "$OUT/fault.case")
 set -- $line
 echo "With the fault of the field:    $1 $2 $((20 + $3))    (the timer reloaded by hand at one interruption)"
 echo

@@ -28,6 +28,9 @@
 extern "C" {
 #endif
 
+/* The version of library, header and command. */
+#define DREVOKAS_VERSION "1.0"
+
 /* Limits. */
 #define DREVOKAS_RECORD_LENGTH 200u
 #define DREVOKAS_RECORD_VERSION 1u
@@ -79,21 +82,29 @@ extern "C" {
 
 /* An answer holds, from the left: kind in bits 0-7, number in bits 8-15, zeros, units completed in bits 32-63. */
 
+#ifdef __cplusplus
+#define DREVOKAS_WORD(number) static_cast<uint32_t>(number)
+#else
+#define DREVOKAS_WORD(number) (uint32_t)(number)
+#endif
+
 static inline uint32_t drevokas_kind(uint64_t answer)
 {
-    return (uint32_t)(answer >> 56);
+    return DREVOKAS_WORD(answer >> 56);
 }
 
 static inline uint32_t drevokas_number(uint64_t answer)
 {
-    return (uint32_t)(answer >> 48 & 0xffu);
+    return DREVOKAS_WORD(answer >> 48 & 0xffu);
 }
 
 /* The units completed, of run; zero in the answers of check and translate and in a refusal. */
 static inline uint32_t drevokas_units(uint64_t answer)
 {
-    return (uint32_t)(answer & 0xffffffffu);
+    return DREVOKAS_WORD(answer & 0xffffffffu);
 }
+
+#undef DREVOKAS_WORD
 
 /*
  * Checks a record. Answers:

@@ -66,7 +66,7 @@ static int wants_help(int argc, char **argv)
     int i;
 
     for (i = 1; i < argc && strcmp(argv[i], "--") != 0; i++)
-        if (strcmp(argv[i], "--help") == 0)
+        if (strcmp(argv[i], "--help") == 0 || strcmp(argv[i], "-h") == 0)
             return 1;
     return 0;
 }
@@ -110,13 +110,13 @@ static int digit_of(char c, int base)
     return digit < base ? digit : -1;
 }
 
-static int number(const char *text, int base, uint64_t most, uint64_t *value)
+static int number(const char *text, const char *end, int base, uint64_t most, uint64_t *value)
 {
     uint64_t v = 0;
 
-    if (*text == '\0')
+    if (text == end)
         return -1;
-    for (; *text != '\0'; text++) {
+    for (; text != end; text++) {
         int digit = digit_of(*text, base);
 
         if (digit < 0 || v > (most - (uint64_t)digit) / (uint64_t)base)
@@ -129,14 +129,23 @@ static int number(const char *text, int base, uint64_t most, uint64_t *value)
 
 int decimal_number(const char *text, uint64_t most, uint64_t *value)
 {
-    return number(text, 10, most, value);
+    return number(text, text + strlen(text), 10, most, value);
 }
 
 int hex_number(const char *text, uint64_t most, uint64_t *value)
 {
+    const char *end = text + strlen(text);
+
     if (text[0] == '0' && (text[1] == 'x' || text[1] == 'X'))
         text += 2;
-    return number(text, 16, most, value);
+    else if (text[0] == 'x' || text[0] == 'X') {
+        text++;
+        if (end - text >= 2 && text[0] == '\'' && end[-1] == '\'') {
+            text++;
+            end--;
+        }
+    }
+    return number(text, end, 16, most, value);
 }
 
 int units_option(const char *option, const char *value, uint32_t least, uint32_t *units)

@@ -33,7 +33,8 @@ int sort_arguments(int argc, char **argv, const struct usage *u, struct argument
 /* A decimal number from 0 to most: digits and nothing else. Returns 0, or -1. */
 int decimal_number(const char *text, uint64_t most, uint64_t *value);
 
-/* A hexadecimal number from 0 to most, with or without 0x. Returns 0, or -1. */
+/* A hexadecimal number from 0 to most: digits, 0x and digits, X'digits', or X and digits, which a shell makes of X'digits'.
+   Returns 0, or -1. */
 int hex_number(const char *text, uint64_t most, uint64_t *value);
 
 /* The units, least at least, that this option asks for, left as they are when its value is NULL. Complains of a value that is no

@@ -7,8 +7,8 @@
 #include <unistd.h>
 
 #include "fields.h"
+#include "plain_text.h"
 
-#define FILE_VERSION 1
 #define LENGTH_BYTES 4      /* of the length field itself, which it does not count */
 
 /* Where each part of the file starts. */
@@ -127,7 +127,9 @@ enum read_result read_case_file(const char *name, struct case_file *c, char *mes
         close(file);
     if (length < 0)
         return READ_FAILED;
-    if (length > MOST_FILE_BYTES)
+    if (is_plain_text(bytes, (size_t)length))
+        wrong = "this is a text: use drevokas make";
+    else if (length > MOST_FILE_BYTES)
         wrong = "the file is over 33000 bytes, the most that eight frames take";
     else
         wrong = parse_case_file(bytes, (size_t)length, c);

@@ -12,6 +12,7 @@
 #define FRAME_BYTES 4096
 #define MOST_FRAMES 8
 #define MOST_FILE_BYTES 33000
+#define FILE_VERSION 1
 
 struct case_file {
     uint32_t designation;

@@ -1,30 +1,18 @@
 /* The record's fields in words. */
-#include <stdarg.h>
 #include <stdio.h>
-#include <string.h>
 
 #include "explain.h"
 #include "fields.h"
 #include "instructions.h"
 #include "words.h"
 
-#define WORDS 400
+#define MEANING 42      /* column from which a field's meaning stands */
 
 /* A bit of a byte and what it asks for. */
 struct bit_words {
     unsigned bit;
     const char *words;
 };
-
-static void add(char *text, const char *format, ...)
-{
-    size_t length = strlen(text);
-    va_list arguments;
-
-    va_start(arguments, format);
-    vsnprintf(text + length, WORDS - length, format, arguments);
-    va_end(arguments);
-}
 
 /* Bits that are one and that no rule names. */
 static void add_ignored(char *text, uint64_t bits)
@@ -55,13 +43,14 @@ static void add_bits(char *text, const char *what, uint64_t value, const struct 
 
 static unsigned code_of(const uint8_t *record)
 {
-    return (unsigned)get_field(record, find_field("code"));
+    return (unsigned)field_of(record, "code");
 }
 
 static void length_words(const uint8_t *record, uint64_t value, char *text)
 {
     (void)record;
-    add(text, "%llu bytes%s", (unsigned long long)value, value == 200 ? "" : ": must be 200, so the record is refused (R 1)");
+    add(text, "%llu byte%s%s", (unsigned long long)value, plural(value),
+        value == 200 ? "" : ": must be 200, so the record is refused (R 1)");
 }
 
 static void version_words(const uint8_t *record, uint64_t value, char *text)
@@ -84,9 +73,9 @@ static void mode_words(const uint8_t *record, uint64_t value, char *text)
 {
     (void)record;
     if ((value & 0x0c) == 0x08)
-        add(text, "370-XA mode (bits 4-5 are 10)");
+        add(text, "370-XA (bits 4-5 are 10)");
     else
-        add(text, "not 370-XA mode (bits 4-5 are not 10): entry fails");
+        add(text, "not 370-XA (bits 4-5 are not 10): entry fails");
     add(text, "; %s", value & 0x02 ? "preferred storage (bit 6 is one): entry fails" : "pageable storage (bit 6 is zero)");
     add_ignored(text, value & 0xf1);
 }
@@ -106,7 +95,9 @@ static void lctl_words(const uint8_t *record, uint64_t value, char *text)
     unsigned i;
 
     (void)record;
-    add(text, "LCTL to be intercepted (code 4): %s", value == 0 ? "none" : "of control registers");
+    add(text, "LCTL to be intercepted (code 4): %s", value == 0 ? "none" : "of control register");
+    if ((value & (value - 1)) != 0)
+        add(text, "s");
     for (i = 0; i < 16; i++)
         if (value & 0x8000u >> i)
             add(text, " %u", i);
@@ -126,7 +117,7 @@ static void prefix_words(const uint8_t *record, uint64_t value, char *text)
 static void origin_words(const uint8_t *record, uint64_t value, char *text)
 {
     (void)record;
-    add(text, "origin %lu: guest absolute 0 is host virtual %08lx hex", (unsigned long)value, (unsigned long)value << 16);
+    add(text, "origin %lu: guest absolute 0 is host virtual %08lx", (unsigned long)value, (unsigned long)value << 16);
 }
 
 static void extent_words(const uint8_t *record, uint64_t value, char *text)
@@ -162,7 +153,7 @@ static void epoch_words(const uint8_t *record, uint64_t value, char *text)
 
     (void)record;
     signed_microseconds(value, time, sizeof time);
-    add(text, "epoch difference: %s us from the host clock to the guest clock", time);
+    add(text, "epoch difference to the host clock: %s us", time);
 }
 
 static void svc_words(const uint8_t *record, uint64_t value, char *text)
@@ -196,7 +187,7 @@ static void code_words(const uint8_t *record, uint64_t value, char *text)
 static void ilc_words(const uint8_t *record, uint64_t value, char *text)
 {
     (void)record;
-    add(text, "instruction-length code: %lu halfwords", (unsigned long)value);
+    add(text, "instruction-length code: %lu halfword%s", (unsigned long)value, plural(value));
 }
 
 static const char *none_or_meaningless(uint64_t value)
@@ -208,22 +199,17 @@ static void interruption_words(const uint8_t *record, uint64_t value, char *text
 {
     unsigned code = code_of(record);
 
-    add(text, "interruption code: ");
     if (code == 8)
-        add(text, "%s", program_words((unsigned)value));
-    else if (code == 20 && value == 0x1004)
-        add(text, "clock comparator");
-    else if (code == 20 && value == 0x1005)
-        add(text, "CPU timer");
+        add(text, "interruption code %02lx hex: %s", (unsigned long)value, program_words((unsigned)value));
+    else if (code == 20)
+        add(text, "interruption code %04lx hex: %s", (unsigned long)value, external_words((unsigned)value));
     else
-        add(text, "%s", none_or_meaningless(value));
+        add(text, "interruption code: %s", none_or_meaningless(value));
 }
 
 static void address_words(const uint8_t *record, uint64_t value, char *text)
 {
-    uint64_t interruption = get_field(record, find_field("interruption"));
-
-    if (code_of(record) == 8 && (interruption == 0x10 || interruption == 0x11))
+    if (code_of(record) == 8 && is_translation(field_of(record, "interruption")))
         add(text, "address: that of the virtual page without a translation");
     else
         add(text, "address: %s", none_or_meaningless(value));
@@ -284,7 +270,8 @@ static void print_field(const struct field *f, const char *hex, const char *word
         snprintf(bytes, sizeof bytes, "%u", f->at);
     else
         snprintf(bytes, sizeof bytes, "%u-%u", f->at, f->at + f->bytes - 1);
-    printf("  %-13s  %-5s  %-16s  %s\n", f->name, bytes, hex, words);
+    printf("  %-13s  %-5s  %-16s  ", f->name, bytes, hex);
+    print_from(MEANING, "%s", words);
 }
 
 void explain_record(const struct case_file *c)
@@ -295,7 +282,7 @@ void explain_record(const struct case_file *c)
     for (i = 0; i < sizeof views / sizeof *views; i++) {
         const struct field *f = find_field(views[i].name);
         uint64_t value = get_field(c->record, f);
-        char hex[24], text[WORDS] = "";
+        char hex[24], text[SENTENCE] = "";
 
         snprintf(hex, sizeof hex, "%0*llx", (int)(2 * f->bytes), (unsigned long long)value);
         views[i].words(c->record, value, text);

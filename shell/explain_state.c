@@ -6,10 +6,7 @@
 #include "psw.h"
 #include "words.h"
 
-static uint64_t field(const struct case_file *c, const char *name)
-{
-    return get_field(c->record, find_field(name));
-}
+#define TIMER_WORDS 38      /* column from which the words on a timer stand */
 
 /* ---- PSW ---- */
 
@@ -57,7 +54,7 @@ static void print_psw_field(uint64_t psw, size_t i)
 
 void explain_psw(const struct case_file *c)
 {
-    uint64_t psw = field(c, "psw");
+    uint64_t psw = field_of(c->record, "psw");
     const char *wrong = psw_not_installed(psw);
     size_t i;
 
@@ -65,7 +62,7 @@ void explain_psw(const struct case_file *c)
     printf("  bits   name                     value\n");
     for (i = 0; i < sizeof psw_fields / sizeof *psw_fields; i++)
         print_psw_field(psw, i);
-    printf("  33-63  instruction address    %08lx hex\n", (unsigned long)(psw & 0x7fffffff));
+    printf("  33-63  instruction address    %08lx\n", (unsigned long)(psw & 0x7fffffff));
     if (wrong != NULL)
         printf("  It cannot be run with: %s (code 32).\n", wrong);
     else if ((wrong = psw_malformed(psw)) != NULL)
@@ -76,35 +73,38 @@ void explain_psw(const struct case_file *c)
 
 /* ---- timers ---- */
 
-/* Whether an external interruption is due, and whether the guest is enabled for it. */
-static void print_due(const struct case_file *c, int due, unsigned mask_bit)
+/* A time, whether its external interruption is due, and whether the guest is enabled for it. */
+static void print_due(const struct case_file *c, const char *time, int due, unsigned mask_bit)
 {
-    int psw_open = psw_bits(field(c, "psw"), 7, 7) != 0, mask_open = (field(c, "cr0") & 0x80000000u >> mask_bit) != 0;
+    int psw_open = psw_bits(field_of(c->record, "psw"), 7, 7) != 0;
+    int mask_open = (field_of(c->record, "cr0") & 0x80000000u >> mask_bit) != 0;
 
     if (!due)
-        printf("not due\n");
+        print_from(TIMER_WORDS, "%s: not due", time);
     else if (!psw_open)
-        printf("due, but disabled by PSW bit 7\n");
+        print_from(TIMER_WORDS, "%s: due, but disabled by PSW bit 7", time);
     else if (!mask_open)
-        printf("due, but disabled by CR0 bit %u\n", mask_bit);
+        print_from(TIMER_WORDS, "%s: due, but disabled by CR0 bit %u", time, mask_bit);
     else
-        printf("due, and enabled by PSW bit 7 and CR0 bit %u: code 20\n", mask_bit);
+        print_from(TIMER_WORDS, "%s: due, and enabled by PSW bit 7 and CR0 bit %u: code 20", time, mask_bit);
 }
 
 void explain_timers(const struct case_file *c)
 {
-    uint64_t timer = field(c, "timer"), comparator = field(c, "comparator"), clock = c->clock + field(c, "epoch");
+    uint64_t timer = field_of(c->record, "timer"), comparator = field_of(c->record, "comparator");
+    uint64_t clock = c->clock + field_of(c->record, "epoch");
     char time[SENTENCE];
 
     printf("\nTimers, in hex and in microseconds\n");
     signed_microseconds(timer, time, sizeof time);
-    printf("  CPU timer         %016llx  %s: ", (unsigned long long)timer, time);
-    print_due(c, timer >> 63 != 0, 21);
+    printf("  CPU timer         %016llx  ", (unsigned long long)timer);
+    print_due(c, time, timer >> 63 != 0, 21);
     microseconds(0, clock, time, sizeof time);
-    printf("  guest clock       %016llx  %s: host clock plus epoch difference\n", (unsigned long long)clock, time);
+    printf("  guest clock       %016llx  ", (unsigned long long)clock);
+    print_from(TIMER_WORDS, "%s: host clock plus epoch difference", time);
     microseconds(0, comparator, time, sizeof time);
-    printf("  clock comparator  %016llx  %s: ", (unsigned long long)comparator, time);
-    print_due(c, clock > comparator, 20);
+    printf("  clock comparator  %016llx  ", (unsigned long long)comparator);
+    print_due(c, time, clock > comparator, 20);
 }
 
 /* ---- registers ---- */
@@ -120,7 +120,7 @@ static void print_four(const struct case_file *c, const char *kind, unsigned fir
         char name[16];
 
         snprintf(name, sizeof name, "%s%u", kind, i);
-        printf("  %08lx", (unsigned long)field(c, name));
+        printf("  %08lx", (unsigned long)field_of(c->record, name));
     }
     putchar('\n');
 }
@@ -152,7 +152,7 @@ static void print_bit(unsigned long cr0, unsigned bit, const char *name, const c
 
 void explain_registers(const struct case_file *c)
 {
-    unsigned long cr0 = (unsigned long)field(c, "cr0"), cr1 = (unsigned long)field(c, "cr1");
+    unsigned long cr0 = (unsigned long)field_of(c->record, "cr0"), cr1 = (unsigned long)field_of(c->record, "cr1");
 
     printf("\nControl registers\n");
     print_sixteen(c, "cr");

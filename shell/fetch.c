@@ -4,7 +4,6 @@
 #include <string.h>
 
 #include "../include/drevokas.h"
-#include "fields.h"
 #include "psw.h"
 #include "words.h"
 
@@ -20,14 +19,18 @@ static int fetch_byte(const struct case_file *c, struct text *t, unsigned i)
     return 0;
 }
 
-struct text fetch_text(const struct case_file *c)
+struct text fetch_text(const struct case_file *c, uint64_t psw)
 {
     struct text t;
 
     memset(&t, 0, sizeof t);
-    t.psw = get_field(c->record, find_field("psw"));
-    if (psw_address(t.psw) % 2 != 0 || fetch_byte(c, &t, 0) != 0)
+    t.psw = psw;
+    if (fetch_byte(c, &t, 0) != 0)
         return t;
+    if (psw_address(t.psw) % 2 != 0) {
+        t.fetched = 0;
+        return t;
+    }
     t.length = instruction_length(t.bytes[0]);
     while (t.fetched < t.length && fetch_byte(c, &t, t.fetched) == 0)
         ;
@@ -46,11 +49,11 @@ static void missing_words(const struct text *t, char *line, size_t room)
 
     switch (drevokas_kind(t->answer)) {
     case DREVOKAS_PROGRAM_EXCEPTION:
-        snprintf(line, room, "(not fetched: exception %02x hex, %s, at %08lx hex)", number, program_words(number),
+        snprintf(line, room, "(not fetched: exception %02x hex, %s, at %08lx)", number, program_words(number),
                  (unsigned long)psw_wrapped(t->psw, psw_address(t->psw) + t->fetched));
         break;
     case DREVOKAS_HOST_FAULT:
-        snprintf(line, room, "(not fetched: host fault %02x hex, %s, at host address %08lx hex)", number, program_words(number),
+        snprintf(line, room, "(not fetched: host fault %02x hex, %s, at host address %08lx)", number, program_words(number),
                  (unsigned long)t->where);
         break;
     case DREVOKAS_INTERCEPTED:
@@ -70,4 +73,22 @@ void text_words(const struct text *t, char *line, size_t room)
         snprintf(line, room, "(not fetched: exception 06 hex, specification, since the address is odd)");
     else
         missing_words(t, line, room);
+}
+
+void text_column(const struct text *t, char *line, size_t room)
+{
+    if (drevokas_kind(t->answer) == DREVOKAS_INTERCEPTED)
+        snprintf(line, room, "(no entry)");
+    else if (psw_not_installed(t->psw) != NULL)
+        snprintf(line, room, "(PSW not installed)");
+    else if (psw_malformed(t->psw) != NULL)
+        snprintf(line, room, "(PSW malformed)");
+    else if (psw_bits(t->psw, 14, 14))
+        snprintf(line, room, "(wait state)");
+    else if (psw_address(t->psw) % 2 != 0)
+        snprintf(line, room, "(odd address)");
+    else if (!is_whole(t))
+        snprintf(line, room, "(not fetched)");
+    else
+        text_words(t, line, room);
 }

@@ -1,4 +1,4 @@
-/* The instruction at the PSW, fetched as the machine would: halfword by halfword, each byte by the library's translation. */
+/* The instruction at a PSW, fetched as the machine would: halfword by halfword, each byte by the library's translation. */
 #ifndef FETCH_H
 #define FETCH_H
 
@@ -13,12 +13,17 @@ struct text {
     uint64_t answer, where;     /* the library's answer for the last byte that was asked for */
 };
 
-struct text fetch_text(const struct case_file *c);
+/* The instruction at this PSW, which differs from the case file's in the address at most. */
+struct text fetch_text(const struct case_file *c, uint64_t psw);
 
 /* Whether all of the instruction is there. */
 int is_whole(const struct text *t);
 
 /* The instruction in assembler, or in parentheses why it is not there. */
 void text_words(const struct text *t, char *line, size_t room);
+
+/* The same for a column of COLUMN characters: where no unit could start with an instruction, only what is wrong. */
+#define COLUMN 22
+void text_column(const struct text *t, char *line, size_t room);
 
 #endif

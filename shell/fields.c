@@ -101,6 +101,11 @@ uint64_t get_field(const uint8_t *record, const struct field *f)
     return get_number(record + f->at, f->bytes);
 }
 
+uint64_t field_of(const uint8_t *record, const char *name)
+{
+    return get_field(record, find_field(name));
+}
+
 int put_field(uint8_t *record, const struct field *f, uint64_t value)
 {
     if (f->bytes < 8 && value >> (8 * f->bytes) != 0)

@@ -22,6 +22,9 @@ const struct field *find_field(const char *name);
 /* A field's number, big-endian. */
 uint64_t get_field(const uint8_t *record, const struct field *f);
 
+/* The number of the field of this name. */
+uint64_t field_of(const uint8_t *record, const char *name);
+
 /* Sets a field; returns 0, or -1 if the number does not fit, and then nothing is changed. */
 int put_field(uint8_t *record, const struct field *f, uint64_t value);
 

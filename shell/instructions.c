@@ -17,31 +17,38 @@ enum format {
     S           /* D2(B2) */
 };
 
+/* Whether the second operand is in storage. */
+enum access {
+    NO_ACCESS,
+    ACCESS
+};
+
 struct instruction {
     const char *name;
     uint16_t opcode;    /* one byte, or two where it is over 255 */
     enum format format;
+    enum access access;
 };
 
 /* The listed instructions, and those whose interception is mandatory and that have a name of their own. */
 static const struct instruction instructions[] = {
-    {"BCR", 0x07, RR},
-    {"SVC", 0x0A, RR_SVC},
-    {"LR", 0x18, RR},
-    {"AR", 0x1A, RR},
-    {"SR", 0x1B, RR},
-    {"LA", 0x41, RX},
-    {"BC", 0x47, RX},
-    {"ST", 0x50, RX},
-    {"L", 0x58, RX},
-    {"LPSW", 0x82, S},
-    {"DIAG", 0x83, RS},
-    {"SIGP", 0xAE, RS},
-    {"STCTL", 0xB6, RS},
-    {"LCTL", 0xB7, RS},
-    {"STCK", 0xB205, S},
-    {"SPT", 0xB208, S},
-    {"STPT", 0xB209, S},
+    {"BCR", 0x07, RR, NO_ACCESS},
+    {"SVC", 0x0A, RR_SVC, NO_ACCESS},
+    {"LR", 0x18, RR, NO_ACCESS},
+    {"AR", 0x1A, RR, NO_ACCESS},
+    {"SR", 0x1B, RR, NO_ACCESS},
+    {"LA", 0x41, RX, NO_ACCESS},
+    {"BC", 0x47, RX, NO_ACCESS},
+    {"ST", 0x50, RX, ACCESS},
+    {"L", 0x58, RX, ACCESS},
+    {"LPSW", 0x82, S, ACCESS},
+    {"DIAG", 0x83, RS, NO_ACCESS},
+    {"SIGP", 0xAE, RS, NO_ACCESS},
+    {"STCTL", 0xB6, RS, ACCESS},
+    {"LCTL", 0xB7, RS, ACCESS},
+    {"STCK", 0xB205, S, ACCESS},
+    {"SPT", 0xB208, S, ACCESS},
+    {"STPT", 0xB209, S, ACCESS},
 };
 
 #define INSTRUCTIONS (sizeof instructions / sizeof *instructions)
@@ -148,14 +155,37 @@ static void show_based(const uint8_t *text, char *operand, size_t room)
         snprintf(operand, room, "X'%X'", displacement);
 }
 
+/* The instruction of a text of length bytes; NULL if it is not listed, or not whole. */
+static const struct instruction *of_text(const uint8_t *text, size_t length)
+{
+    if (length == 0 || length < instruction_length(text[0]))
+        return NULL;
+    return by_opcode(text[0] == 0xB2 ? 0xB200u | text[1] : text[0]);
+}
+
+int operand_address(const uint8_t *text, size_t length, const uint32_t registers[16], uint32_t *address)
+{
+    const struct instruction *i = of_text(text, length);
+    unsigned index, base;
+
+    if (i == NULL || i->access == NO_ACCESS)
+        return 0;
+    index = text[1] & 15u;
+    base = text[2] >> 4;
+    *address = (text[2] & 15u) << 8 | text[3];
+    if (i->format == RX && index != 0)
+        *address += registers[index];
+    if (base != 0)
+        *address += registers[base];
+    return 1;
+}
+
 void disassemble(const uint8_t *text, size_t length, char *line, size_t room)
 {
-    const struct instruction *i = NULL;
+    const struct instruction *i = of_text(text, length);
     char operand[32] = "";
     unsigned first, second;
 
-    if (length > 0 && length >= instruction_length(text[0]))
-        i = by_opcode(text[0] == 0xB2 ? 0xB200u | text[1] : text[0]);
     if (i == NULL) {
         show_data(text, length > 0 && length > instruction_length(text[0]) ? instruction_length(text[0]) : length, line, room);
         return;

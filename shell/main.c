@@ -4,6 +4,8 @@
 #include <stdio.h>
 #include <string.h>
 
+#include "../include/drevokas.h"
+#include "case_file.h"
 #include "command.h"
 
 static const struct {
@@ -27,19 +29,45 @@ static void print_usage(FILE *to)
     fputs("usage: drevokas SUBCOMMAND ARGUMENTS\n\n", to);
     for (i = 0; i < COMMANDS; i++)
         fprintf(to, "  %-10s %s\n", commands[i].name, commands[i].purpose);
-    fputs("\ndrevokas SUBCOMMAND --help says what each takes.\n", to);
+    fputs("\ndrevokas help SUBCOMMAND or drevokas SUBCOMMAND --help (-h) says what each takes.\n"
+          "drevokas --version says which version this is.\n", to);
 }
 
+static int print_version(void)
+{
+    printf("drevokas %s\nrecord version %u, case file version %u\n", DREVOKAS_VERSION, DREVOKAS_RECORD_VERSION, FILE_VERSION);
+    return finished(STATUS_GOOD);
+}
+
+static int is_one_of(const char *argument, const char *name, const char *other)
+{
+    return strcmp(argument, name) == 0 || strcmp(argument, other) == 0;
+}
+
+/* The sub-command that argv[0] names, with the arguments after it. */
 static int dispatch(int argc, char **argv)
 {
     size_t i;
 
     for (i = 0; i < COMMANDS; i++)
-        if (strcmp(argv[1], commands[i].name) == 0)
-            return commands[i].run(argc - 1, argv + 1);
-    complain("no sub-command %s", argv[1]);
+        if (strcmp(argv[0], commands[i].name) == 0)
+            return commands[i].run(argc, argv);
+    complain("no sub-command %s", argv[0]);
     print_usage(stderr);
     return STATUS_BAD;
+}
+
+/* help, alone or with a sub-command after it. */
+static int help(int argc, char **argv)
+{
+    char option[] = "--help", *sub[] = {NULL, option, NULL};
+
+    if (argc > 1) {
+        sub[0] = argv[1];
+        return dispatch(2, sub);
+    }
+    print_usage(stdout);
+    return finished(STATUS_GOOD);
 }
 
 /* A standard stream that is closed is opened so that using it fails: no other file may come to stand in its place. */
@@ -62,9 +90,11 @@ int main(int argc, char **argv)
         print_usage(stderr);
         return STATUS_BAD;
     }
-    if (strcmp(argv[1], "--help") == 0) {
-        print_usage(stdout);
-        return finished(STATUS_GOOD);
-    }
-    return dispatch(argc, argv);
+    if (is_one_of(argv[1], "--help", "-h"))
+        return help(1, argv + 1);
+    if (strcmp(argv[1], "help") == 0)
+        return help(argc - 1, argv + 1);
+    if (strcmp(argv[1], "--version") == 0)
+        return print_version();
+    return dispatch(argc - 1, argv + 1);
 }

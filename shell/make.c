@@ -13,7 +13,7 @@
 static const char help[] =
     "Builds a case file from the text form in TEXT, where - is standard input. The case file goes to OUT,\n"
     "or to standard output if that is no terminal. Nothing is written if the text has an error, or if it\n"
-    "says nothing.\n"
+    "says nothing. A text has 1 MiB (1048576 bytes) at most.\n"
     "\n"
     "  -o OUT             where the case file goes\n"
     "  --from CASE        starts from this case file: what the text does not say stays as it is there\n"

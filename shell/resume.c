@@ -5,6 +5,7 @@
 
 #include "../include/drevokas.h"
 #include "command.h"
+#include "ending.h"
 #include "interrupt.h"
 #include "progress.h"
 #include "words.h"
@@ -59,25 +60,22 @@ static int line_is_out(FILE *to, const struct ending *e)
     return finished(STATUS_GOOD) == STATUS_GOOD && !ferror(to);
 }
 
-/* What the line does not say: why the file was refused, or where a host fault happened. Returns the exit status. */
+/* How the run ended, in words, but not where that is asked to be quiet and nothing is refused. Returns the exit status. */
 static int comment_on(const struct ending *e, const struct case_file *c, const char *name, int quiet)
 {
     char text[SENTENCE];
 
-    if (e->kind == DREVOKAS_HOST_FAULT && !quiet)
-        complain("%s: host fault %02x hex, %s, at host address %08llx hex", name, (unsigned)e->number, program_words(e->number),
-                 (unsigned long long)e->where);
-    if (e->kind != DREVOKAS_REFUSED)
-        return STATUS_GOOD;
-    refusal_sentence(e->number, c, text, sizeof text);
-    complain("%s: refused: %s", name, text);
-    return STATUS_REFUSED;
+    ending_sentence(e, c, text);
+    if (!quiet || e->kind == DREVOKAS_REFUSED)
+        complain("%s: %s", name, text);
+    return e->kind == DREVOKAS_REFUSED ? STATUS_REFUSED : STATUS_GOOD;
 }
 
 /* The exit status of a run that a signal ended, as a shell gives it for the signal itself. */
 static int interrupted(const struct ending *e, int number, const char *name)
 {
-    complain("%s: interrupted by %s after %llu units", name, interrupt_name(number), (unsigned long long)e->units);
+    complain("%s: interrupted by %s after %llu unit%s", name, interrupt_name(number), (unsigned long long)e->units,
+             plural(e->units));
     return 128 + number;
 }
 
@@ -85,7 +83,8 @@ static int interrupted(const struct ending *e, int number, const char *name)
 static int ended_badly(const struct course *k)
 {
     if (k->kept > 0)
-        complain("%s: is as it stood after %llu units, at its last checkpoint", k->after->name, (unsigned long long)k->kept);
+        complain("%s: is as it stood after %llu unit%s, at its last checkpoint", k->after->name, (unsigned long long)k->kept,
+                 plural(k->kept));
     return STATUS_BAD;
 }
 
@@ -96,8 +95,8 @@ static int conclude(const struct course *k, const struct ending *e, const struct
     int printed;
 
     if (k->why != 0) {
-        complain("%s: the checkpoint after %llu units cannot be written: %s", k->after->name, (unsigned long long)e->units,
-                 strerror(k->why));
+        complain("%s: the checkpoint after %llu unit%s cannot be written: %s", k->after->name, (unsigned long long)e->units,
+                 plural(e->units), strerror(k->why));
         return STATUS_BAD;
     }
     printed = line_is_out(k->to, e);

@@ -7,9 +7,10 @@ static const struct usage usage = {
     "Runs a case file, or standard input if FILE is -, and prints one line:\n"
     "  R NUMBER         refused\n"
     "  I CODE UNITS     intercepted with this code\n"
-    "  H CODE UNITS     host fault with this program code; its host address goes to standard error\n"
+    "  H CODE UNITS     host fault with this program code\n"
     "  B 0 UNITS        budget used, or interrupted by a signal\n"
-    "All numbers are decimal; UNITS are the units completed.\n\n"
+    "All numbers are decimal; UNITS are the units completed. A sentence on standard error says why the\n"
+    "run ended, and where.\n\n"
     RUN_OPTIONS_HELP,
     1, RUN_OPTIONS,
 };

@@ -4,6 +4,7 @@
 
 #include "../include/drevokas.h"
 #include "command.h"
+#include "ending.h"
 #include "fetch.h"
 #include "fields.h"
 #include "progress.h"
@@ -11,64 +12,178 @@
 #include "resume.h"
 #include "words.h"
 
-#define LINE 128
+#define NUMBER 6            /* digits of a unit's number, if those of the budget are not more */
+#define SVC 0x0a
+#define REGISTERS 16
+#define TO_BE_INTERCEPTED 0x40      /* interception control bit 1: program exceptions */
 
 static const struct usage usage = {
     "trace FILE [--budget N] [--after OUT [--checkpoint N]] [--quiet]",
-    "Runs a case file, or standard input if FILE is -, unit by unit: a run with budget 1, resumed.\n"
-    "Prints one line for each unit completed: its number, the instruction's address and the instruction;\n"
-    "the condition code and the CPU timer after it, the timer in hexadecimal and in microseconds; and,\n"
-    "where the next instruction is not the one that follows, -> and its address: a branch or an\n"
-    "interruption of the guest. The last line is the one that run prints.\n\n"
+    "Runs a case file, or standard input if FILE is -, unit by unit: a run with budget 1, resumed. Prints\n"
+    "one line for each unit completed: its number, the instruction's address and the instruction; the\n"
+    "condition code and the CPU timer after it, the timer in hexadecimal and in microseconds; then what\n"
+    "else happened:\n"
+    "  gr1=00000009                     the register that changed, with its new value; LCTL: the first\n"
+    "  operand 00000218                 the logical address of the operand in storage\n"
+    "  program interruption 11 hex, address 00003000\n"
+    "  SVC interruption 5               the unit ended in an interruption of the guest\n"
+    "  -> 0000020c                      the next instruction is not the one that follows\n"
+    "If an interception or a host fault ends the run, a line \"exit\" has the instruction at which it did,\n"
+    "and the cause. The last line is the one that run prints; the sentence goes to standard error.\n\n"
     RUN_OPTIONS_HELP,
     1, RUN_OPTIONS,
 };
 
-/* What a unit starts with: the instruction, or why there is none. */
-static void first_words(const struct text *t, char *line, size_t room)
-{
-    const char *wrong = psw_malformed(t->psw);
+/* Where the lines go, and the case file as it was before what is to be shown. */
+struct trace {
+    FILE *to;
+    int width;              /* of a unit's number */
+    struct case_file before;
+};
 
-    if (wrong != NULL)
-        snprintf(line, room, "(PSW malformed: %s)", wrong);
-    else
-        text_words(t, line, room);
+/* ---- columns ---- */
+
+/* Number, address and instruction; the condition code is that of c. */
+static void print_columns(const struct trace *r, const char *number, const struct text *t, const struct case_file *c)
+{
+    char line[SENTENCE];
+
+    text_column(t, line, sizeof line);
+    fprintf(r->to, "%*s  %08lx  %-*s  cc %u", r->width, number, (unsigned long)psw_address(t->psw), COLUMN, line,
+            psw_bits(field_of(c->record, "psw"), 18, 19));
 }
 
-/* The unit that started with t and left c. */
-static void print_unit(FILE *to, uint64_t number, const struct text *t, const struct case_file *c)
+/* In hex, exactly; and in microseconds, as many places as the column holds. */
+static void print_timer(const struct trace *r, uint64_t timer)
 {
-    uint64_t psw = get_field(c->record, find_field("psw")), timer = get_field(c->record, find_field("timer"));
-    uint32_t sequential = psw_wrapped(t->psw, psw_address(t->psw) + t->length);
-    char line[LINE], time[SENTENCE];
+    char time[SENTENCE];
 
-    first_words(t, line, sizeof line);
     signed_microseconds(timer, time, sizeof time);
-    fprintf(to, "%6llu  %08lx  %-24s  ", (unsigned long long)number, (unsigned long)psw_address(t->psw), line);
-    fprintf(to, "cc %u  timer %016llx (%s us)", psw_bits(psw, 18, 19), (unsigned long long)timer, time);
-    if (!is_whole(t) || psw_address(psw) != sequential)
-        fprintf(to, "  -> %08lx", (unsigned long)psw_address(psw));
-    fputc('\n', to);
+    fprintf(r->to, "  timer %016llx %17.17s us", (unsigned long long)timer, time);
+}
+
+/* ---- what happened ---- */
+
+/* The first register of a kind that is not as it was before, and how many more there are. */
+static void print_changes(const struct trace *r, const struct case_file *c, const char *kind, unsigned first_byte)
+{
+    unsigned i, more = 0;
+
+    for (i = 0; i < REGISTERS; i++) {
+        unsigned at = first_byte + 4 * i;
+        uint64_t now = get_number(c->record + at, 4);
+
+        if (now == get_number(r->before.record + at, 4))
+            continue;
+        if (more++ == 0)
+            fprintf(r->to, "  %s%u=%08lx", kind, i, (unsigned long)now);
+    }
+    if (more > 1)
+        fprintf(r->to, ", %u more", more - 1);
+}
+
+static void print_registers(const struct trace *r, const struct case_file *c)
+{
+    print_changes(r, c, "gr", find_field("gr0")->at);
+    print_changes(r, c, "cr", find_field("cr0")->at);
+}
+
+static void print_operand(const struct trace *r, const struct text *t)
+{
+    uint32_t registers[REGISTERS], address;
+    unsigned i;
+
+    for (i = 0; i < REGISTERS; i++)
+        registers[i] = (uint32_t)get_number(r->before.record + find_field("gr0")->at + 4 * i, 4);
+    if (psw_malformed(t->psw) == NULL && operand_address(t->bytes, t->fetched, registers, &address))
+        fprintf(r->to, "  operand %08lx", (unsigned long)psw_wrapped(t->psw, address));
+}
+
+/* Whether the unit ended in a program interruption: it would then be intercepted, with the same code and address, if program
+   exceptions were. The case file after that is left in probe. */
+static int is_program_interruption(const struct trace *r, struct case_file *probe)
+{
+    struct ending e;
+
+    *probe = r->before;
+    probe->record[find_field("interceptions")->at] |= TO_BE_INTERCEPTED;
+    e = run_slice(probe, 1);
+    return e.kind == DREVOKAS_INTERCEPTED && e.number == DREVOKAS_CODE_PROGRAM;
+}
+
+/* The interruption of the guest in which the unit ended, if it did. A completed SVC is always one. */
+static void print_interruption(const struct trace *r, const struct text *t)
+{
+    const char *wrong = psw_malformed(t->psw);
+    struct case_file probe;
+
+    if (is_program_interruption(r, &probe)) {
+        fprintf(r->to, "  program interruption %02lx hex", (unsigned long)field_of(probe.record, "interruption"));
+        if (is_translation(field_of(probe.record, "interruption")))
+            fprintf(r->to, ", address %08lx", (unsigned long)field_of(probe.record, "address"));
+        if (wrong != NULL)
+            fprintf(r->to, ", PSW %s", wrong);
+    } else if (t->bytes[0] == SVC)
+        fprintf(r->to, "  SVC interruption %u", t->bytes[1]);
+}
+
+/* ---- lines ---- */
+
+/* The unit that left c. */
+static void print_unit(const struct trace *r, uint64_t number, const struct case_file *c)
+{
+    struct text t = fetch_text(&r->before, field_of(r->before.record, "psw"));
+    uint32_t next = psw_address(field_of(c->record, "psw"));
+    char digits[24];
+
+    snprintf(digits, sizeof digits, "%llu", (unsigned long long)number);
+    print_columns(r, digits, &t, c);
+    print_timer(r, field_of(c->record, "timer"));
+    print_registers(r, c);
+    print_operand(r, &t);
+    print_interruption(r, &t);
+    if (!is_whole(&t) || next != psw_wrapped(t.psw, psw_address(t.psw) + t.length))
+        fprintf(r->to, "  -> %08lx", (unsigned long)next);
+    fputc('\n', r->to);
+}
+
+/* The interception or host fault that left c. It charges no time: the cause stands in the timer's place. */
+static void print_exit(const struct trace *r, const struct ending *e, const struct case_file *c)
+{
+    struct text t = ending_text(c);
+    char cause[SENTENCE] = "";
+
+    add_cause(e, c, cause);
+    print_columns(r, "exit", &t, c);
+    fprintf(r->to, "  %s", cause);
+    print_registers(r, c);
+    if (ended_by_instruction(e))
+        print_operand(r, &t);
+    fputc('\n', r->to);
 }
 
 /* All units, as long as the run goes on, and how it ended. */
 static struct ending trace_units(FILE *to, struct case_file *c, uint32_t units, struct course *k)
 {
     struct progress p = progress_of(units);
+    struct trace r;
     struct ending e;
     uint64_t done = 0;
 
+    r.to = to;
+    r.width = snprintf(NULL, 0, "%0*lu", NUMBER, (unsigned long)units);
     p.shown = p.shown && !isatty(fileno(to));
     do {
-        struct text t = fetch_text(c);
-
+        r.before = *c;
         e = run_slice(c, units > 0);
         done += e.units;
         if (e.units == 1)
-            print_unit(to, done, &t, c);
+            print_unit(&r, done, c);
         progress_at(&p, done);
     } while (e.kind == DREVOKAS_BUDGET_USED && done < units && goes_on(k, c, done));
     progress_over(&p);
+    if (e.kind == DREVOKAS_INTERCEPTED || e.kind == DREVOKAS_HOST_FAULT)
+        print_exit(&r, &e, c);
     e.units = done;
     return e;
 }

@@ -9,14 +9,14 @@
 
 static const struct usage usage = {
     "translate FILE ADDRESS [--access fetch|store|instruction]",
-    "Translates a guest logical address of a case file, or of standard input if FILE is -. ADDRESS is hexadecimal, with or\n"
-    "without 0x, and wraps by the PSW's addressing mode. Prints one line; numbers before the colon are hexadecimal, but for\n"
-    "I and R:\n"
-    "  good ADDRESS: SENTENCE         the host absolute address\n"
-    "  exception CODE: SENTENCE       the guest's program exception\n"
-    "  fault CODE ADDRESS: SENTENCE   the host fault and its host virtual address\n"
-    "  I 32: SENTENCE                 entry would fail, and why\n"
-    "  R NUMBER: SENTENCE             refused, and why\n\n"
+    "Translates a guest logical address of a case file, or of standard input if FILE is -. ADDRESS is\n"
+    "hexadecimal: 3000, 0x3000 or X'3000'. It wraps by the PSW's addressing mode. Prints one line:\n"
+    "  good ADDRESS: SENTENCE                the host absolute address\n"
+    "  exception CODE hex: SENTENCE          the guest's program exception\n"
+    "  fault CODE hex at ADDRESS: SENTENCE   the host fault and its host virtual address\n"
+    "  I 32: SENTENCE                        entry would fail, and why\n"
+    "  R NUMBER: SENTENCE                    refused, and why\n"
+    "An address is printed as eight hexadecimal digits.\n\n"
     "  --access KIND    fetch (an operand; if nothing is said), store, or instruction\n\n"
     "Exit status: 0, 1 if it is refused, 2 for bad usage or a file that cannot be read.\n",
     2, {"--access"},
@@ -38,11 +38,20 @@ static int access_kind(const char *name, uint32_t *access)
     return GO_ON;
 }
 
+/* Whether the digits might be meant in binary, by a prefix that elsewhere means it. */
+static int may_be_binary(const char *text)
+{
+    return text[0] == '0' && (text[1] == 'b' || text[1] == 'B') && text[2] != '\0' && text[2 + strspn(text + 2, "01")] == '\0';
+}
+
 static int address_of(const char *text, uint64_t *address)
 {
-    if (hex_number(text, 0xffffffffu, address) == 0)
+    if (hex_number(text, 0xffffffffu, address) != 0)
+        complain("address %s: must be a hexadecimal number of 32 bits: digits, 0x and digits, or X'digits'", text);
+    else if (may_be_binary(text))
+        complain("address %s: is it hexadecimal, 0x%s, or binary? Write 0x and hexadecimal digits", text, text);
+    else
         return GO_ON;
-    complain("address %s: must be a hexadecimal number of 32 bits, with or without 0x", text);
     return STATUS_BAD;
 }
 
@@ -57,10 +66,10 @@ static int print_answer(const struct case_file *c, uint64_t answer, uint64_t whe
         printf("good %08lx: frame %lu, offset %03lx hex\n", at, at / FRAME_BYTES, at % FRAME_BYTES);
         return STATUS_GOOD;
     case DREVOKAS_PROGRAM_EXCEPTION:
-        printf("exception %02x: %s, a program exception of the guest\n", number, program_words(number));
+        printf("exception %02x hex: %s, a program exception of the guest\n", number, program_words(number));
         return STATUS_GOOD;
     case DREVOKAS_HOST_FAULT:
-        printf("fault %02x %08lx: %s, a host fault at that host address\n", number, at, program_words(number));
+        printf("fault %02x hex at %08lx: %s, a host fault at that host address\n", number, at, program_words(number));
         return STATUS_GOOD;
     case DREVOKAS_INTERCEPTED:
         entry_sentence(c->record, text, sizeof text);

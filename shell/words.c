@@ -1,9 +1,13 @@
 #include "words.h"
 
+#include <stdarg.h>
 #include <stdio.h>
 #include <string.h>
 
+#include "../include/drevokas.h"
 #include "fields.h"
+
+#define PARAGRAPH (2 * SENTENCE)      /* room for what print_from prints at once */
 
 struct word {
     unsigned number;
@@ -20,6 +24,11 @@ static const struct word program_codes[] = {
     {0x10, "segment translation"},
     {0x11, "page translation"},
     {0x12, "translation specification"},
+};
+
+static const struct word external_codes[] = {
+    {0x1004, "clock comparator"},
+    {0x1005, "CPU timer"},
 };
 
 static const struct word interception_codes[] = {
@@ -44,9 +53,24 @@ static const char *look_up(const struct word *words, size_t count, unsigned numb
     return "not a code of this machine";
 }
 
+void add(char text[SENTENCE], const char *format, ...)
+{
+    size_t length = strlen(text);
+    va_list arguments;
+
+    va_start(arguments, format);
+    vsnprintf(text + length, SENTENCE - length, format, arguments);
+    va_end(arguments);
+}
+
 const char *program_words(unsigned code)
 {
     return look_up(program_codes, sizeof program_codes / sizeof *program_codes, code);
+}
+
+int is_translation(uint64_t code)
+{
+    return code == DREVOKAS_SEGMENT_TRANSLATION || code == DREVOKAS_PAGE_TRANSLATION;
 }
 
 const char *interception_words(unsigned code)
@@ -54,25 +78,32 @@ const char *interception_words(unsigned code)
     return look_up(interception_codes, sizeof interception_codes / sizeof *interception_codes, code);
 }
 
-static unsigned long long field(const uint8_t *record, const char *name)
+const char *external_words(unsigned code)
 {
-    return get_field(record, find_field(name));
+    return look_up(external_codes, sizeof external_codes / sizeof *external_codes, code);
+}
+
+const char *plural(uint64_t number)
+{
+    return number == 1 ? "" : "s";
 }
 
 void refusal_sentence(unsigned number, const struct case_file *c, char *text, size_t room)
 {
     switch (number) {
     case 1:
-        snprintf(text, room, "the record's length field is %llu, and must be 200", field(c->record, "length"));
+        snprintf(text, room, "the record's length field is %lu, and must be 200",
+                 (unsigned long)field_of(c->record, "length"));
         break;
     case 2:
-        snprintf(text, room, "the record's version is %llu, and must be 1", field(c->record, "version"));
+        snprintf(text, room, "the record's version is %lu, and must be 1", (unsigned long)field_of(c->record, "version"));
         break;
     case 6:
         snprintf(text, room, "the time per unit is %lu clock units, and must be 1048576 at most", (unsigned long)c->time);
         break;
     case 7:
-        snprintf(text, room, "bytes 66-71 of the record are %012llx hex, and must be zero", field(c->record, "reserved"));
+        snprintf(text, room, "bytes 66-71 of the record are %012llx hex, and must be zero",
+                 (unsigned long long)field_of(c->record, "reserved"));
         break;
     case 9:
         snprintf(text, room, "case file malformed");
@@ -85,9 +116,9 @@ void refusal_sentence(unsigned number, const struct case_file *c, char *text, si
 
 int entry_sentence(const uint8_t *record, char *text, size_t room)
 {
-    unsigned mode = (unsigned)field(record, "mode");
-    unsigned long origin = (unsigned long)field(record, "origin"), extent = (unsigned long)field(record, "extent");
-    unsigned long prefix = (unsigned long)field(record, "prefix") & 0x7ffff000;
+    unsigned mode = (unsigned)field_of(record, "mode");
+    unsigned long origin = (unsigned long)field_of(record, "origin"), extent = (unsigned long)field_of(record, "extent");
+    unsigned long prefix = (unsigned long)field_of(record, "prefix") & 0x7ffff000;
 
     text[0] = '\0';
     if ((mode & 0x0c) != 0x08)
@@ -102,9 +133,46 @@ int entry_sentence(const uint8_t *record, char *text, size_t room)
         snprintf(text, room, "origin %lu and extent %lu are %lu blocks together, and must be 32768 at most", origin, extent,
                  origin + extent);
     else if (prefix + 4096 > extent * 65536)
-        snprintf(text, room, "prefix: the block at %08lx hex is not below the extent, which ends at %08lx hex", prefix,
+        snprintf(text, room, "prefix: the block at %08lx is not below the extent, which ends at %08lx", prefix,
                  extent * 65536);
     return text[0] != '\0';
+}
+
+/* The last blank up to this place that follows one of these characters, or any if they are NULL; 0 if there is none. */
+static size_t last_blank(const char *text, size_t at, const char *after)
+{
+    while (at > 0 && (text[at] != ' ' || (after != NULL && strchr(after, text[at - 1]) == NULL)))
+        at--;
+    return at;
+}
+
+/* How many characters of the text go into a line of this room: all, or up to a blank, by choice one between two parts of a
+   sentence. */
+static size_t fitting(const char *text, size_t room)
+{
+    size_t length = strlen(text), part, word;
+
+    if (length <= room)
+        return length;
+    part = last_blank(text, room, ",;:");
+    word = last_blank(text, room, NULL);
+    return part > room / 2 ? part : word > 0 ? word : room;
+}
+
+void print_from(unsigned column, const char *format, ...)
+{
+    char text[PARAGRAPH], *at = text;
+    size_t length;
+    va_list arguments;
+
+    va_start(arguments, format);
+    vsnprintf(text, sizeof text, format, arguments);
+    va_end(arguments);
+    while (length = fitting(at, WIDTH - column), at[length] != '\0') {
+        printf("%.*s\n%*s", (int)length, at, (int)column, "");
+        at += length + strspn(at + length, " ");
+    }
+    puts(at);
 }
 
 void microseconds(int negative, uint64_t units, char *text, size_t room)

@@ -41,8 +41,11 @@ call() {
     tests=$((tests + 1))
 }
 
+# The sentence that every run ends with, unless it is refused.
+SENTENCE='^drevokas: [^ ]*: \(budget used: \|intercepted, code \|host fault \)'
+
 # says STATUS OUTPUT MESSAGE ARGUMENT...: the exit status and standard output are these, and standard error has this message
-# in it, or is empty if that is empty.
+# in it, or, if that is empty, nothing but how a run ended.
 says() {
     want_status=$1 want_out=$2 want_err=$3
     shift 3
@@ -50,7 +53,7 @@ says() {
     [ "$status" -eq "$want_status" ] || fail "$*: exit status $status, and not $want_status"
     [ "$(cat "$OUT/out")" = "$want_out" ] || fail "$*: printed $(cat "$OUT/out"), and not $want_out"
     case $want_err in
-    '') [ ! -s "$OUT/err" ] || fail "$*: said $(cat "$OUT/err")" ;;
+    '') ! grep -qv "$SENTENCE" "$OUT/err" || fail "$*: said $(cat "$OUT/err")" ;;
     *) grep -qF -e "$want_err" "$OUT/err" || fail "$*: said $(cat "$OUT/err"), and not $want_err" ;;
     esac
 }
@@ -61,21 +64,39 @@ same() {
     cmp -s "$1" "$2" || fail "$3: $1 and $2 differ"
 }
 
-# shows NAME ARGUMENT...: standard output is the kept one of this name.
+# shows NAME ARGUMENT...: standard output is the kept one of this name. With UPDATE set it is kept anew.
 shows() {
     kept=$EXPECTED/$1
     shift
     call "$@"
+    [ -z "${UPDATE:-}" ] || cp "$OUT/out" "$kept"
     cmp -s "$OUT/out" "$kept" || fail "$*: the output is not $kept"
 }
 
+# within_100 WHAT: the output has no line of more than 100 columns.
+within_100() {
+    awk 'length > 100 { exit 1 }' "$OUT/out" || fail "$1: a line of more than 100 columns"
+}
+
 test_usage() {
+    says 0 "$(printf 'drevokas 1.0\nrecord version 1, case file version 1')" '' --version
+    call help
+    [ "$status" -eq 0 ] && grep -q '^usage: drevokas SUBCOMMAND ' "$OUT/out" && [ ! -s "$OUT/err" ] || fail help
+    within_100 help
+    for word in --help -h; do
+        says 0 "$(cat "$OUT/out")" '' "$word"
+    done
+    says 2 '' 'no sub-command fly' help fly
+    drevokas help make | grep -q '1 MiB' || fail 'help make does not name the limit of a text'
     says 2 '' 'no sub-command'
     says 2 '' 'no sub-command fly' fly
     says 2 '' 'no sub-command -x' -x
     for sub in run check translate explain make trace; do
         call "$sub" --help
         [ "$status" -eq 0 ] && grep -q "^usage: drevokas $sub " "$OUT/out" && [ ! -s "$OUT/err" ] || fail "$sub --help"
+        within_100 "$sub --help"
+        says 0 "$(cat "$OUT/out")" '' "$sub" -h
+        says 0 "$(cat "$OUT/out")" '' help "$sub"
         drevokas --help | grep -q "^  $sub " || fail "--help does not name $sub"
         call "$sub"
         [ "$status" -eq 2 ] && [ ! -s "$OUT/out" ] && [ -s "$OUT/err" ] || fail "$sub without arguments"
@@ -103,7 +124,7 @@ test_options() {
     done
     says 2 '' 'must be a decimal number from 0 to 524288' explain "$FILES/ar.in" --pages 524289
     says 2 '' 'must be fetch, store or instruction' translate "$FILES/ar.in" 0 --access load
-    for address in '' x 0x 100000000 0x100000000 12345678g -- ' 0' +1; do
+    for address in '' x 0x 100000000 0x100000000 12345678g -- ' 0' +1 "X'" "X''" "X'1" "0x'1'" "X'100000000'" "X'0x1'"; do
         call translate "$FILES/ar.in" "$address"
         [ "$status" -eq 2 ] && [ ! -s "$OUT/out" ] && [ -s "$OUT/err" ] || fail "translate ar.in '$address'"
     done
@@ -121,13 +142,14 @@ test_cases() {
         call run "$file"
         cmp -s "$OUT/out" "$FILES/$name.out" || fail "run $file: $(cat "$OUT/out"), and not $kind $rest"
         case $kind$status in
-        R1) grep -q "refused:\|not a case file:" "$OUT/err" || fail "run $file: no reason" ;;
-        H0) grep -q "at host address" "$OUT/err" || fail "run $file: no host address" ;;
-        I0 | B0) [ ! -s "$OUT/err" ] || fail "run $file: said $(cat "$OUT/err")" ;;
+        R1) grep -q "refused, R [1-8]:\|not a case file:" "$OUT/err" || fail "run $file: no reason" ;;
+        H0) grep -q ": host fault .. hex, .*, at host address [0-9a-f]*, " "$OUT/err" || fail "run $file: no host address" ;;
+        I0) grep -q ": intercepted, code ${rest% *}: [a-zA-Z]" "$OUT/err" || fail "run $file: said $(cat "$OUT/err")" ;;
+        B0) grep -q ": budget used: ${rest#* } units* completed$" "$OUT/err" || fail "run $file: said $(cat "$OUT/err")" ;;
         *) fail "run $file: exit status $status" ;;
         esac
     done
-    drevokas run - < "$FILES/ar.in" | cmp -s - "$FILES/ar.out" || fail 'run -'
+    drevokas run - < "$FILES/ar.in" 2> /dev/null | cmp -s - "$FILES/ar.out" || fail 'run -'
     tests=$((tests + 1))
 }
 
@@ -141,7 +163,7 @@ test_check() {
     says 0 'I 32: extent is 0 blocks, and must be 1 at least' '' check "$FILES/entry_extent_0.in"
     says 0 'I 32: origin 32767 and extent 2 are 32769 blocks together, and must be 32768 at most' '' \
         check "$FILES/entry_sum_32769.in"
-    says 0 'I 32: prefix: the block at 00010000 hex is not below the extent, which ends at 00010000 hex' '' \
+    says 0 'I 32: prefix: the block at 00010000 is not below the extent, which ends at 00010000' '' \
         check "$FILES/entry_prefix_over_extent.in"
     says 1 "R 1: the record's length field is 199, and must be 200" '' check "$FILES/record_length_199.in"
     says 1 "R 2: the record's version is 2, and must be 1" '' check "$FILES/record_version_2.in"
@@ -153,9 +175,13 @@ test_translate() {
     says 0 'good 00000200: frame 0, offset 200 hex' '' translate "$FILES/ar.in" 200
     says 0 'good 00000200: frame 0, offset 200 hex' '' translate "$FILES/ar.in" 0x80000200 --access instruction
     says 0 'good 00000fff: frame 0, offset fff hex' '' translate "$FILES/ar.in" 0XFFF --access=store
-    says 0 'exception 05: addressing, a program exception of the guest' '' translate "$FILES/ar.in" 10000
-    says 0 'fault 11 00001000: page translation, a host fault at that host address' '' \
-        translate "$FILES/ar.in" 1000 --access fetch
+    says 0 'exception 05 hex: addressing, a program exception of the guest' '' translate "$FILES/ar.in" 10000
+    for address in 1000 0x1000 0X1000 "X'1000'" "x'00001000'" X1000; do
+        says 0 'fault 11 hex at 00001000: page translation, a host fault at that host address' '' \
+            translate "$FILES/ar.in" "$address" --access fetch
+    done
+    says 2 '' 'address 0b10: is it hexadecimal, 0x0b10, or binary?' translate "$FILES/ar.in" 0b10
+    says 0 'good 00000b10: frame 0, offset b10 hex' '' translate "$FILES/ar.in" 0x0b10
     says 0 'I 32: extent is 0 blocks, and must be 1 at least' '' translate "$FILES/entry_extent_0.in" 0
     says 1 "R 2: the record's version is 2, and must be 1" '' translate "$FILES/record_version_2.in" 0
     says 1 'R 9: case file malformed' 'not a case file' translate "$FILES/malformed_count_9.in" 0
@@ -177,11 +203,19 @@ test_damaged() {
     says 1 'R 9' 'over 33000 bytes' run "$FILES/malformed_count_9.in"
     says 1 'R 9' 'is not 220 and 4097 for each frame of the count in byte 223' run "$FILES/malformed_count_over.in"
     says 1 'R 9' 'standard input: not a case file' run -
+    for sub in run trace; do
+        says 1 'R 9' 'batch.txt: not a case file: this is a text: use drevokas make' "$sub" examples/batch.txt
+    done
+    says 1 'R 9: case file malformed' 'this is a text: use drevokas make' check examples/batch.txt
+    says 1 'R 9: case file malformed' 'this is a text: use drevokas make' translate examples/batch.txt 0
+    says 1 '' 'this is a text: use drevokas make' explain examples/batch.txt
+    printf '\357\273\277# a text\r\n' > "$OUT/mark.txt"
+    says 1 'R 9' 'this is a text: use drevokas make' run "$OUT/mark.txt"
 }
 
 # cut_at FILE UNITS BUDGET: the run that is cut after so many units and resumed leaves the same as whole.after.
 cut_at() {
-    drevokas run "$1" --budget "$2" --after "$OUT/part.after" > "$OUT/part"
+    drevokas run "$1" --budget "$2" --after "$OUT/part.after" > "$OUT/part" 2> /dev/null
     drevokas run "$OUT/part.after" --budget $(($3 - $2)) --after "$OUT/cut.after" > "$OUT/rest" 2> /dev/null
     [ "$(cat "$OUT/part")" = "B 0 $2" ] || fail "$1 cut after $2: the first part ended with $(cat "$OUT/part")"
     same "$OUT/cut.after" "$OUT/whole.after" "$1 cut after $2"
@@ -198,10 +232,12 @@ test_resumption() {
         cut_at "$file" 1 "$budget"
         [ "$units" -lt 2 ] || cut_at "$file" $((units / 2)) "$budget"
         [ "$units" -lt 2 ] || cut_at "$file" "$units" "$budget"
+        lines=$((units + 2))
+        [ "$kind" != B ] || lines=$((units + 1))
         drevokas trace "$file" --after "$OUT/trace.after" > "$OUT/trace" 2> /dev/null
         same "$OUT/trace.after" "$OUT/whole.after" "$file traced"
         [ "$(tail -n 1 "$OUT/trace")" = "$kind $number $units" ] || fail "trace $file: $(tail -n 1 "$OUT/trace")"
-        [ "$(wc -l < "$OUT/trace")" -eq $((units + 1)) ] || fail "trace $file: not one line a unit"
+        [ "$(wc -l < "$OUT/trace")" -eq "$lines" ] || fail "trace $file: not one line for each unit, exit and end"
     done
 }
 
@@ -310,10 +346,11 @@ test_views() {
         read -r kind number < "${file%in}out"
         call explain "$file"
         case $kind$status in
-        R1) grep -q "refused:\|not a case file:" "$OUT/err" || fail "explain $file: no reason" ;;
+        R1) grep -q "refused, R [1-8]:\|not a case file:" "$OUT/err" || fail "explain $file: no reason" ;;
         [HIB]0) [ -s "$OUT/out" ] && [ ! -s "$OUT/err" ] || fail "explain $file: said $(cat "$OUT/err")" ;;
         *) fail "explain $file: exit status $status" ;;
         esac
+        within_100 "explain $file"
     done
 }
 
@@ -344,6 +381,7 @@ test_output
 test_make
 test_views
 test_programs
+timeout 120 python3 shell/tests/words_test.py "$ROOT/target/bin/drevokas" || fail shell/tests/words_test.py
 timeout 300 sh shell/tests/fuzz.sh || fail shell/tests/fuzz.sh
 echo "$tests shell tests, $failed failed"
 [ "$failed" -eq 0 ]

@@ -15,11 +15,13 @@ if [ ! -f "$LIB" ]; then
 fi
 mkdir -p "$OUT"
 
-# the header by itself, as C99 and as C++
-echo '#include "include/drevokas.h"' | "$CC" $FLAGS -I. -fsyntax-only -x c -
-if command -v g++ > /dev/null; then
-    echo '#include "include/drevokas.h"' | g++ -Wall -Wextra -Werror -pedantic -I. -fsyntax-only -x c++ -
-fi
+# the header by itself, as C99 and as C++, without a warning on conversions or casts
+echo '#include "include/drevokas.h"' | "$CC" $FLAGS -Wconversion -I. -fsyntax-only -x c -
+for compiler in g++ clang++; do
+    command -v "$compiler" > /dev/null || continue
+    echo '#include "include/drevokas.h"' |
+        "$compiler" -Wall -Wextra -Werror -pedantic -Wconversion -Wold-style-cast -I. -fsyntax-only -x c++ -
+done
 
 "$CC" $FLAGS -O1 -g -o "$OUT/test_translate" tests/c/test_translate.c "$LIB"
 "$CC" $FLAGS -O1 -g -o "$OUT/test_run" tests/c/test_run.c "$LIB"
