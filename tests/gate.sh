@@ -30,12 +30,11 @@ install_valgrind() {
     apt-get update -qq && apt-get install -y -qq valgrind
 }
 
-# What the tests in Rust, which were started before, have printed.
+# Waits for the tests in Rust, which were started before; shows what they printed if they failed.
 rust_tests() {
-    rust_status=0
-    wait "$rust" || rust_status=$?
+    wait "$rust" && return
     cat target/rust.log
-    return "$rust_status"
+    return 1
 }
 
 sh tools/need.sh rt gcc python3 cargo
@@ -48,6 +47,7 @@ part 'proofs and must-fail edits' sh tools/progress.sh "$LOG" "$crates" ci
 stop_if_failed
 part build make all
 stop_if_failed
+echo "gate: tests/rust, beside the others; what they print goes to target/rust.log"
 sh tests/rust/run.sh > target/rust.log 2>&1 &
 rust=$!
 for folder in tests/cases tests/c tests/tools shell/tests tests/docs; do

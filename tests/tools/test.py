@@ -248,7 +248,7 @@ class Gate(Copy):
                 write("echo tested; exit 3\n", self.top, part, "run.sh")
             printed = self.fails("make", "gate")
             self.assertIn(f"gate: failed: {' '.join(parts)}\n", printed)
-            self.assertEqual(printed.count("\ntested\n"), len(PARTS))
+            self.assertEqual(printed.count("\ntested\n"), len(PARTS) - (PARTS[-1] not in parts))
             self.assertNotIn("passed, 0 failed", printed)
 
 
@@ -268,10 +268,10 @@ class Interrupted(Copy):
         os.remove(name)
 
     def test_interrupted(self):
-        for goal in ["demo", "gate"]:
-            self.interrupt(goal, lambda process, terminal: os.write(terminal, b"\x03"))
-            self.interrupt(goal, lambda process, terminal: os.kill(process, signal.SIGTERM))
-            self.interrupt(goal, lambda process, terminal: os.killpg(process, signal.SIGHUP))
+        self.interrupt("demo", lambda process, terminal: os.write(terminal, b"\x03"))
+        self.interrupt("demo", lambda process, terminal: os.kill(process, signal.SIGTERM))
+        self.interrupt("gate", lambda process, terminal: os.write(terminal, b"\x03"))
+        self.interrupt("gate", lambda process, terminal: os.killpg(process, signal.SIGHUP))
         self.assertTrue(self.passes("make", "demo").endswith(Build.DEMO))
         self.assertTrue(self.passes("make", "gate").endswith("23 passed, 0 failed\n"))
 
