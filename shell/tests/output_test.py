@@ -525,7 +525,7 @@ def test_quiet():
             expect(ended == 0 and "host fault" in err, f"{sub}: {ended}, {err}")
             says([sub, fault, "--quiet"], 0, out, None)
             says([sub, "--quiet", "--", fault], 0, out, None)
-            says([sub, refused, "--quiet"], 1, b"R 2\n", "refused: the record's version is 2")
+            says([sub, refused, "--quiet"], 1, b"R 2\n", "refused, R 2: the record's version is 2")
             says([sub, "guest.txt", "--quiet"], 1, b"R 9\n", "not a case file")
             says([sub, "none.case", "--quiet"], 2, b"", "cannot be read")
             says([sub, fault, "--quiet=1"], 2, b"", "option --quiet takes no value")
