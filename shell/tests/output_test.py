@@ -156,13 +156,17 @@ def folder():
 
 # Signals
 
+def counted(units):
+    return f"{units} unit" + ("" if units == 1 else "s")
+
+
 def interrupted(ended, number, out, err, what):
     """The run ended by this signal, said so and left its case file; returns its units."""
     lines = out.decode().splitlines()
     units = int(lines[-1].split()[2]) if lines else 0
     expect(ended == 128 + number and lines[-1:] == [f"B 0 {units}"], f"{what}: {ended}, {lines[-1:]}")
     name = signal.Signals(number).name
-    expect(err == f"drevokas: guest.case: interrupted by {name} after {units} units\n", f"{what}: {err}")
+    expect(err == f"drevokas: guest.case: interrupted by {name} after {counted(units)}\n", f"{what}: {err}")
     expect(read("out.case") == after(units), f"{what}: not the case file after {units} units")
     return units
 
@@ -244,7 +248,7 @@ def test_reader_gone():
                 poll(lambda: p.poll() is not None or len(select.select([ours], [], [], 0)[0]) > 0, "lines")
             os.close(ours)
             ended, _, err = finish(p)
-            units = re.search(r"interrupted by SIGINT after (\d+) units", err)
+            units = re.search(r"interrupted by SIGINT after (\d+) units?$", err, re.MULTILINE)
             expect(ended == 130 and units is not None, f"{sub}, reader gone: {ended}, {err}")
             expect(read("out.case") == after(int(units.group(1))), f"{sub}, reader gone: not the case file")
         with folder():
@@ -604,7 +608,7 @@ def test_terminal_interrupted():
             shown = t.shown.decode().replace("\r\n", "\n")
             units = units_of(read("out.case"))
             rest = shown.rpartition(f"\r{' ' * 60}\r")
-            line, message = f"B 0 {units}\n", f"drevokas: guest.case: interrupted by SIGINT after {units} units\n"
+            line, message = f"B 0 {units}\n", f"drevokas: guest.case: interrupted by SIGINT after {counted(units)}\n"
             expect(ended == 130 and rest[1] != "", f"Ctrl-C: {ended}, {shown}")
             expect(rest[2] == (line + message if 1 in streams else message), f"Ctrl-C: {rest[2]}")
             expect(re.search(r"\rdrevokas: \d+ of \d+ units", rest[0]) is not None, f"Ctrl-C: {rest[0]}")
