@@ -1,6 +1,6 @@
 /*
- * A case file of document 01: the numbers, a record, up to eight frames and their keys. Reading tests everything that document 01
- * calls malformed and tells what is wrong.
+ * A case file of document 01: the numbers, a record, up to eight frames and their keys. Reading tests everything that document
+ * 01 calls malformed and tells what is wrong.
  */
 #ifndef CASE_FILE_H
 #define CASE_FILE_H

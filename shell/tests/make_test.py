@@ -10,7 +10,7 @@ import sys
 import tempfile
 
 sys.dont_write_bytecode = True
-from make_tools import COMMAND, FRAME, Case, call, expect, finish, made  # noqa: E402
+from tools import COMMAND, FRAME, Case, call, expect, made, report  # noqa: E402
 
 FOLDER = os.path.dirname(os.path.abspath(__file__))
 
@@ -496,4 +496,4 @@ def test_terminal():
 for test in (test_defaults, test_fields, test_host_tables, test_guest_tables, test_data, test_spaces, test_code, test_known_case,
              test_from, test_errors, test_many_errors, test_long_texts, test_files, test_terminal):
     test()
-finish()
+report()

@@ -18,7 +18,10 @@ import sys
 import termios
 import time
 
-COMMAND, FAULTS, FOLDER = (os.path.abspath(name) for name in sys.argv[1:4])
+sys.dont_write_bytecode = True
+from tools import COMMAND, expect, report  # noqa: E402
+
+FAULTS, FOLDER = (os.path.abspath(name) for name in sys.argv[2:4])
 FILES = os.path.join(os.path.dirname(os.path.abspath(__file__)), "../../tests/cases/files")
 PATIENCE = 60  # seconds that anything may take on a busy machine
 SLICE = 65535
@@ -34,15 +37,6 @@ loop AR 1,2
  STPT X'300'
  BC 15,loop
 """
-tests = failures = 0
-
-
-def expect(good, what):
-    global tests, failures
-    tests += 1
-    if not good:
-        failures += 1
-        print(f"output_test: {what[:1000]}")
 
 
 def prepare(ignored=()):
@@ -161,8 +155,8 @@ def interrupted(ended, number, out, err, what):
     lines = out.decode().splitlines()
     units = int(lines[-1].split()[2]) if lines else 0
     expect(ended == 128 + number and lines[-1:] == [f"B 0 {units}"], f"{what}: {ended}, {lines[-1:]}")
-    name = signal.Signals(number).name
-    expect(err == f"drevokas: guest.case: interrupted by {name} after {units} units\n", f"{what}: {err}")
+    name, plural = signal.Signals(number).name, "" if units == 1 else "s"
+    expect(err == f"drevokas: guest.case: interrupted by {name} after {units} unit{plural}\n", f"{what}: {err}")
     expect(read("out.case") == after(units), f"{what}: not the case file after {units} units")
     return units
 
@@ -633,5 +627,4 @@ for test in (test_interrupted, test_interrupted_first, test_own_end, test_second
              test_long_names, test_missing_calls, test_signals_while_writing, test_quiet, test_terminal_refused,
              test_terminal_interrupted, test_terminal_gone):
     test()
-print(f"output_test: {tests} tests, {failures} failed")
-sys.exit(failures > 0)
+report()

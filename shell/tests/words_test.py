@@ -10,29 +10,15 @@ import subprocess
 import sys
 import tempfile
 
-COMMAND = sys.argv[1]
+sys.dont_write_bytecode = True
+from tools import COMMAND, call, expect, report  # noqa: E402
+
 FILES = os.path.join(os.path.dirname(os.path.abspath(__file__)), "../../tests/cases/files")
 UNIT = re.compile(r" *([0-9]+)  [0-9a-f]{8}  .{22}  cc [0-3]  timer [0-9a-f]{16} .{17} us((?:  \S.*)?)")
 EXIT = re.compile(r" *exit  [0-9a-f]{8}  .{22}  cc [0-3]  (?:code [0-9]+: |host fault [0-9a-f]{2} hex, )\S.*")
 CHANGE = re.compile(r"  ([gc]r[0-9]+)=([0-9a-f]{8})(?:, ([0-9]+) more)?")
 CONTROL, GENERAL = 23 + 72, 23 + 136  # the registers in a case file
 MOST_UNITS = 12  # of a kept case file whose registers are compared
-tests = failed = 0
-
-
-def expect(good, message):
-    global tests, failed
-    tests += 1
-    if not good:
-        failed += 1
-        print(f"words_test: {message}", file=sys.stderr)
-
-
-def call(*arguments, data=None):
-    """Exit status, standard output and standard error."""
-    p = subprocess.run([COMMAND, *arguments], input=data, stdout=subprocess.PIPE, stderr=subprocess.PIPE, timeout=20)
-    return p.returncode, p.stdout, p.stderr.decode()
-
 
 HEAD = """time = 1us
 host tables at frame 1
@@ -113,7 +99,7 @@ def test_guests(folder):
         for line in settings.split("\n"):
             head = re.sub(rf"(?m)^{re.escape(line.split('=')[0])}=.*\n", "", head) if "=" in line else head
         text = f"{head}{settings}\nat guest X'200'\n{contents}\n"
-        status, _, err = call("make", "-", "-o", name, data=text.encode())
+        status, _, err = call("make", "-", "-o", name, text=text.encode())
         expect(status == 0, f"{text}: {err}")
         status, out, err = call("run", name)
         expect(status == 0 and err == f"drevokas: {name}: {sentence}\n", f"{settings!r}: {err}")
@@ -152,7 +138,7 @@ def test_registers(file, lines, folder):
     name = os.path.join(folder, "step.case")
     before = open(file, "rb").read()
     for line in lines:
-        call("run", "-", "--budget", "1", "--after", name, data=before)
+        call("run", "-", "--budget", "1", "--after", name, text=before)
         after = open(name, "rb").read()
         want = shown("gr", changes(before, after, GENERAL)) + shown("cr", changes(before, after, CONTROL))
         expect(CHANGE.findall(line) == want, f"{file}: {line}: registers {want}")
@@ -210,7 +196,7 @@ def test_terminal():
 def test_one(folder):
     """One of a thing is not called as many are."""
     name = os.path.join(folder, "one.case")
-    call("make", "-", "-o", name, data=b"frames = 1\ntime = 1\nbudget = 1\nlength = 1\nilc = 1\nlctl = X'8'\n")
+    call("make", "-", "-o", name, text=b"frames = 1\ntime = 1\nbudget = 1\nlength = 1\nilc = 1\nlctl = X'8'\n")
     explained = re.sub(" +", " ", call("explain", name)[1].decode())
     for line in ("time per unit 1 clock unit, 0.000244140625 us", "budget 1 unit\n", "storage 1 frame, ", " 1 byte: must be 200",
                  "instruction-length code: 1 halfword\n", "of control register 12\n"):
@@ -224,5 +210,4 @@ with tempfile.TemporaryDirectory() as place:
     test_kept(place)
 test_wide_numbers()
 test_terminal()
-print(f"{tests} tests of words, {failed} failed")
-sys.exit(failed != 0)
+report()
