@@ -31,6 +31,9 @@ enum read_result {
     READ_FAILED         /* the file cannot be opened or read */
 };
 
+/* The name of an input as messages have it: "-" is standard input. */
+const char *shown_name(const char *name);
+
 /* Reads a case file; "-" is standard input. On another result than READ_GOOD, message (of room bytes) says why. */
 enum read_result read_case_file(const char *name, struct case_file *c, char *message, size_t room);
 

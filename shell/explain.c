@@ -111,7 +111,7 @@ static int explain(const struct case_file *c, const char *name, uint64_t lines)
     if (unit.kind != DREVOKAS_REFUSED)
         return STATUS_GOOD;
     ending_sentence(&unit, &after, text);
-    complain("%s: %s", name, text);
+    complain("%s: %s", shown_name(name), text);
     return STATUS_REFUSED;
 }
 
