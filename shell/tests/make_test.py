@@ -495,7 +495,6 @@ def test_terminal():
 
 
 for test in (test_defaults, test_fields, test_host_tables, test_guest_tables, test_data, test_spaces, test_code,
-             test_known_case,
-             test_from, test_errors, test_many_errors, test_long_texts, test_files, test_terminal):
+             test_known_case, test_from, test_errors, test_many_errors, test_long_texts, test_files, test_terminal):
     test()
 report()
