@@ -37,8 +37,8 @@ int decimal_number(const char *text, uint64_t most, uint64_t *value);
    Returns 0, or -1. */
 int hex_number(const char *text, uint64_t most, uint64_t *value);
 
-/* The units, least at least, that this option asks for, left as they are when its value is NULL. Complains of a value that is no
-   such number. */
+/* The units, least at least, that this option asks for, left as they are when its value is NULL. Complains of a value that is
+   no such number. */
 int units_option(const char *option, const char *value, uint32_t least, uint32_t *units);
 
 /* Reads a case file. Complains if it cannot: STATUS_REFUSED if it is malformed, STATUS_BAD if it cannot be read. */

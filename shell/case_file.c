@@ -99,7 +99,7 @@ static ssize_t read_up_to(int file, uint8_t *bytes, size_t room)
     return (ssize_t)length;
 }
 
-static const char *shown_name(const char *name)
+const char *shown_name(const char *name)
 {
     return strcmp(name, "-") == 0 ? "standard input" : name;
 }

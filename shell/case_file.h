@@ -1,6 +1,6 @@
 /*
- * A case file of document 01: the numbers, a record, up to eight frames and their keys. Reading tests everything that document 01
- * calls malformed and tells what is wrong.
+ * A case file of document 01: the numbers, a record, up to eight frames and their keys. Reading tests everything that document
+ * 01 calls malformed and tells what is wrong.
  */
 #ifndef CASE_FILE_H
 #define CASE_FILE_H
@@ -30,6 +30,9 @@ enum read_result {
     READ_MALFORMED,     /* the file is there, and is not a case file: refusal 9 */
     READ_FAILED         /* the file cannot be opened or read */
 };
+
+/* The name of an input as messages have it: "-" is standard input. */
+const char *shown_name(const char *name);
 
 /* Reads a case file; "-" is standard input. On another result than READ_GOOD, message (of room bytes) says why. */
 enum read_result read_case_file(const char *name, struct case_file *c, char *message, size_t room);

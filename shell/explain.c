@@ -24,8 +24,8 @@ static const struct usage usage = {
     "Shows a case file, or standard input if FILE is -: its numbers; the record field by field; whether\n"
     "entry would succeed, and what a run of one unit would answer; the PSW bit by bit; timers in\n"
     "hexadecimal and in microseconds; control and general registers; the guest's pages by the host's\n"
-    "tables, with frame, protection, key and the pages that share the frame; and the instruction at the\n"
-    "PSW. Nothing is changed.\n\n"
+    "tables, with the host absolute address of the page's entry, frame, protection, key and the pages\n"
+    "that share the frame; and the instruction at the PSW. Nothing is changed.\n\n"
     "  --pages N        list the pages in N lines at most, 0 to 524288; 64 if nothing is said\n\n"
     "Exit status: 0, 1 if the file is malformed or a run of it would be refused, 2 for bad usage or a\n"
     "file that cannot be read.\n",
@@ -111,7 +111,7 @@ static int explain(const struct case_file *c, const char *name, uint64_t lines)
     if (unit.kind != DREVOKAS_REFUSED)
         return STATUS_GOOD;
     ending_sentence(&unit, &after, text);
-    complain("%s: %s", name, text);
+    complain("%s: %s", shown_name(name), text);
     return STATUS_REFUSED;
 }
 

@@ -1,5 +1,4 @@
 /* The guest's pages by the host's tables. */
-#include <stdarg.h>
 #include <stdio.h>
 #include <string.h>
 
@@ -10,9 +9,8 @@
 
 #define NAMED 4             /* guest pages that are kept for each frame; of the others only their number is */
 #define PAGES_OF_BLOCK 16
-#define INDENT 21           /* columns before what is said of a page */
-#define ROOM 79             /* columns for it */
-#define MOST_SAID 300
+#define PAGE_WORDS 21       /* columns from which the words stand: of a page, */
+#define FRAME_WORDS 4       /* and of further lines on the frames */
 
 /* The guest pages of one frame. */
 struct sharing {
@@ -61,24 +59,6 @@ struct range {
     struct host_page p;
 };
 
-/* What is said of a range. */
-struct said {
-    char text[MOST_SAID];
-    size_t length;
-};
-
-static void say(struct said *s, const char *format, ...) __attribute__((format(printf, 2, 3)));
-
-static void say(struct said *s, const char *format, ...)
-{
-    va_list list;
-
-    va_start(list, format);
-    vsnprintf(s->text + s->length, sizeof s->text - s->length, format, list);
-    va_end(list);
-    s->length = strlen(s->text);
-}
-
 /* Whether both are in the same frame with the same protection, or end in the same host fault. */
 static int is_alike(const struct host_page *a, const struct host_page *b)
 {
@@ -113,101 +93,65 @@ static struct range range_from(const struct view *v, uint32_t page)
 }
 
 /* The pages outside the range that are in the same frame. */
-static void say_sharers(struct said *to, const struct sharing *s, const struct range *r)
+static void add_sharers(char text[SENTENCE], const struct sharing *s, const struct range *r)
 {
     uint32_t others = s->count - (r->to - r->from), named = 0, i;
 
     if (others == 0)
         return;
-    say(to, "; shared with");
+    add(text, "; shared with");
     for (i = 0; i < NAMED && i < s->count; i++) {
         if (s->first[i] >= r->from && s->first[i] < r->to)
             continue;
-        say(to, " %08lx", (unsigned long)s->first[i] * FRAME_BYTES);
+        add(text, " %08lx", (unsigned long)s->first[i] * FRAME_BYTES);
         named++;
     }
     if (others > named)
-        say(to, "%s %lu more", named > 0 ? " and" : "", (unsigned long)(others - named));
+        add(text, "%s %lu more", named > 0 ? " and" : "", (unsigned long)(others - named));
 }
 
-static void say_frame(struct said *to, const struct view *v, const struct range *r)
+static void add_frame(char text[SENTENCE], const struct view *v, const struct range *r)
 {
     unsigned key = v->c->keys[r->p.frame];
 
-    say(to, "frame %lu%s; key %u%s%s%s", (unsigned long)r->p.frame, r->p.is_protected ? ", protected" : "", key >> 4,
+    add(text, "frame %lu%s; key %u%s%s%s", (unsigned long)r->p.frame, r->p.is_protected ? ", protected" : "", key >> 4,
         key & 8 ? ", fetch-protected" : "", key & 4 ? ", referenced" : "", key & 2 ? ", changed" : "");
-    say_sharers(to, &v->of[r->p.frame], r);
+    add_sharers(text, &v->of[r->p.frame], r);
 }
 
 /* The first page's entry, and what holds for all pages. */
-static struct said say_range(const struct view *v, const struct range *r)
+static void range_sentence(const struct view *v, const struct range *r, char text[SENTENCE])
 {
     unsigned long count = r->to - r->from;
-    struct said s = {"", 0};
 
+    text[0] = '\0';
     if (r->p.page_read)
-        say(&s, "entry %08lx  ", (unsigned long)r->p.page_place);
+        add(text, "entry %08lx  ", (unsigned long)r->p.page_place);
     else
-        say(&s, "no entry        ");
+        add(text, "no entry        ");
     if (count > 1)
-        say(&s, "%lu pages ", count);
+        add(text, "%lu pages ", count);
     if (r->p.code == 0) {
-        say(&s, "%s", count > 1 ? "all in " : "");
-        say_frame(&s, v, r);
+        add(text, "%s", count > 1 ? "all in " : "");
+        add_frame(text, v, r);
     } else
-        say(&s, "%s: host fault %02x hex, %s", r->p.valid ? "valid, frame beyond the storage" : "not valid", r->p.code,
+        add(text, "%s: host fault %02x hex, %s", r->p.valid ? "valid, frame beyond the storage" : "not valid", r->p.code,
             program_words(r->p.code));
-    return s;
-}
-
-/* How much of a text that is too long for a line stands in it: up to the last semicolon or colon, else up to the last blank. */
-static size_t fold(const char *text)
-{
-    size_t blank = 0, mark = 0, i;
-
-    if (strlen(text) <= ROOM)
-        return strlen(text);
-    for (i = 1; i <= ROOM; i++) {
-        if (text[i] == ' ')
-            blank = i;
-        if (text[i] == ' ' && (text[i - 1] == ';' || text[i - 1] == ':'))
-            mark = i;
-    }
-    return mark > 0 ? mark : blank;
-}
-
-static unsigned lines_of(const char *text)
-{
-    unsigned lines = 1;
-
-    while (strlen(text) > ROOM) {
-        text += fold(text) + 1;
-        lines++;
-    }
-    return lines;
-}
-
-/* Prints what is said, in as many lines as it needs. */
-static void print_folded(const char *text)
-{
-    while (strlen(text) > ROOM) {
-        printf("%.*s\n%*s", (int)fold(text), text, INDENT, "");
-        text += fold(text) + 1;
-    }
-    printf("%s\n", text);
 }
 
 /* Prints one range, if there is room for its lines. */
 static int list_range(struct view *v, const struct range *r)
 {
-    struct said s = say_range(v, r);
-    unsigned lines = lines_of(s.text);
+    char text[SENTENCE];
+    unsigned lines;
 
+    range_sentence(v, r, text);
+    lines = lines_from(PAGE_WORDS, text);
     if (v->lines < lines)
         return 0;
     v->lines -= lines;
     printf("  %08lx-%08lx  ", (unsigned long)r->from * FRAME_BYTES, (unsigned long)r->to * FRAME_BYTES - 1);
-    print_folded(s.text);
+    print_from(PAGE_WORDS, "%s", text);
     return 1;
 }
 
@@ -231,15 +175,14 @@ static void print_list(struct view *v)
 
 static void print_frames(const struct view *v)
 {
-    struct said s = {"", 0};
+    char text[SENTENCE] = "";
     unsigned i;
 
-    say(&s, "frames with table entries for these pages:%s", v->tables == 0 ? " none" : "");
+    add(text, "  frames with table entries for these pages:%s", v->tables == 0 ? " none" : "");
     for (i = 0; i < v->c->frames; i++)
         if (v->tables >> i & 1)
-            say(&s, " %u%s", i, v->of[i].count > 0 ? " (also a guest frame)" : "");
-    printf("  ");
-    print_folded(s.text);
+            add(text, " %u%s", i, v->of[i].count > 0 ? " (also a guest frame)" : "");
+    print_from(FRAME_WORDS, "%s", text);
 }
 
 void explain_pages(const struct case_file *c, uint64_t lines)

@@ -1,6 +1,6 @@
 /*
- * Numbers and expressions of the text form. A number is decimal unless it is marked: X'1F' and 0x1F are hex, B'101' is binary. A
- * decimal number may be an amount of time, in us, ms or s, also with a fraction: it stands for clock units of 2^-12
+ * Numbers and expressions of the text form. A number is decimal unless it is marked: X'1F' and 0x1F are hex, B'101' is binary.
+ * A decimal number may be an amount of time, in us, ms or s, also with a fraction: it stands for clock units of 2^-12
  * microsecond. An expression is numbers and labels with + and - between them. An address may be hex without a mark, where it
  * starts with a digit and has a letter; digits alone are taken only where they are the same in decimal and in hex.
  */

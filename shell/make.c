@@ -355,7 +355,7 @@ int command_make(int argc, char **argv)
     out = a.values[0] != NULL ? a.values[0] : "-";
     if (!good_arguments(&a, out))
         return STATUS_BAD;
-    t.name = strcmp(a.operands[0], "-") == 0 ? "standard input" : a.operands[0];
+    t.name = shown_name(a.operands[0]);
     t.bytes = load_text(a.operands[0], t.name, &t.length);
     if (t.bytes == NULL)
         return STATUS_BAD;

@@ -81,7 +81,8 @@ static int parse_flags(const char *at, uint32_t *flags, struct message *m)
     *flags = take_word(&at, "protected") ? PAGE_PROTECTED : take_word(&at, "invalid") ? PAGE_INVALID : 0;
     if (*skip_blanks(at) == '\0')
         return 0;
-    return wrong(m, "\"%.20s\" is too much; a page is \"protected\" or \"invalid\" or neither, and a comment starts with #", at);
+    return wrong(m, "\"%.20s\" is too much; a page is \"protected\" or \"invalid\" or neither, and a comment starts with #",
+                 at);
 }
 
 /* The frames that a range of guest pages goes to: FRAME or FRAME-FRAME. */
@@ -101,8 +102,8 @@ static int parse_frames(const struct text_form *f, const char **at, struct range
         return wrong(m, "%u page%s must go to as many frames: %llu-%llu", r->count, r->count == 1 ? "" : "s", ull(first),
                      ull(first + r->count - 1));
     if (last >= f->c.frames)
-        return wrong(m, "%u pages from frame %llu on need frame %llu; the last one is frame %u", r->count, ull(first), ull(last),
-                     f->c.frames - 1);
+        return wrong(m, "%u pages from frame %llu on need frame %llu; the last one is frame %u", r->count, ull(first),
+                     ull(last), f->c.frames - 1);
     r->target = (uint32_t)(first * FRAME_BYTES);
     return 0;
 }

@@ -92,6 +92,7 @@ static int ended_badly(const struct course *k)
    leaves its case file even if nobody reads the line. */
 static int conclude(const struct course *k, const struct ending *e, const struct case_file *c, const struct arguments *a)
 {
+    const char *name = shown_name(a->operands[0]);
     int printed;
 
     if (k->why != 0) {
@@ -101,8 +102,8 @@ static int conclude(const struct course *k, const struct ending *e, const struct
     }
     printed = line_is_out(k->to, e);
     if (k->signal != 0)
-        return interrupted(e, k->signal, a->operands[0]);
-    return printed ? comment_on(e, c, a->operands[0], a->values[QUIET] != NULL) : STATUS_BAD;
+        return interrupted(e, k->signal, name);
+    return printed ? comment_on(e, c, name, a->values[QUIET] != NULL) : STATUS_BAD;
 }
 
 /* The line is out before the case file is written: STATUS_BAD means that the file did not advance. */

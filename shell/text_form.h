@@ -118,8 +118,8 @@ void apply_settings(struct text_form *f);
 /* A one for each bit of a field that a line sets as a part of it. */
 uint64_t given_bits(const struct text_form *f, const struct field *field);
 
-/* Takes the parts of a PSW as "dat=1, address=start" and sets them in a PSW that has bits 12 and 32 one. Returns 0, or -1 with a
-   message. */
+/* Takes the parts of a PSW as "dat=1, address=start" and sets them in a PSW that has bits 12 and 32 one. Returns 0, or -1 with
+   a message. */
 int parse_psw(const char *at, const struct labels *labels, uint64_t *psw, struct message *m);
 
 /* Fills the page maps. */

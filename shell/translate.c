@@ -85,8 +85,8 @@ static int print_answer(const struct case_file *c, uint64_t answer, uint64_t whe
 static int translate(const struct case_file *c, uint32_t address, uint32_t access)
 {
     uint64_t where = 0;
-    uint64_t answer = drevokas_translate(c->record, RECORD_BYTES, c->storage, (size_t)c->frames * FRAME_BYTES, c->keys, c->frames,
-                                         c->designation, address, access, &where);
+    uint64_t answer = drevokas_translate(c->record, RECORD_BYTES, c->storage, (size_t)c->frames * FRAME_BYTES, c->keys,
+                                         c->frames, c->designation, address, access, &where);
 
     return print_answer(c, answer, where);
 }

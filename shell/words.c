@@ -159,18 +159,33 @@ static size_t fitting(const char *text, size_t room)
     return part > room / 2 ? part : word > 0 ? word : room;
 }
 
+/* The rest of a text, so many characters of which stand in a line; NULL if that is all. */
+static const char *rest_of(const char *text, size_t length)
+{
+    return text[length] == '\0' ? NULL : text + length + strspn(text + length, " ");
+}
+
+unsigned lines_from(unsigned column, const char *text)
+{
+    unsigned lines = 0;
+
+    for (; text != NULL; text = rest_of(text, fitting(text, WIDTH - column)))
+        lines++;
+    return lines;
+}
+
 void print_from(unsigned column, const char *format, ...)
 {
-    char text[PARAGRAPH], *at = text;
-    size_t length;
+    char text[PARAGRAPH];
+    const char *at = text, *rest;
     va_list arguments;
 
     va_start(arguments, format);
     vsnprintf(text, sizeof text, format, arguments);
     va_end(arguments);
-    while (length = fitting(at, WIDTH - column), at[length] != '\0') {
-        printf("%.*s\n%*s", (int)length, at, (int)column, "");
-        at += length + strspn(at + length, " ");
+    while ((rest = rest_of(at, fitting(at, WIDTH - column))) != NULL) {
+        printf("%.*s\n%*s", (int)fitting(at, WIDTH - column), at, (int)column, "");
+        at = rest;
     }
     puts(at);
 }

@@ -38,6 +38,9 @@ int entry_sentence(const uint8_t *record, char *text, size_t room);
 #define WIDTH 100
 void print_from(unsigned column, const char *format, ...) __attribute__((format(printf, 2, 3)));
 
+/* How many lines that takes for this text. */
+unsigned lines_from(unsigned column, const char *text);
+
 /* Clock units of 2^-12 microsecond as microseconds, exactly: "-0.5". */
 void microseconds(int negative, uint64_t units, char *text, size_t room);
 

@@ -9,7 +9,7 @@ import sys
 import tempfile
 
 sys.dont_write_bytecode = True
-from make_tools import FRAME, Case, call, expect, finish  # noqa: E402
+from tools import FRAME, Case, call, expect, report  # noqa: E402
 
 EXAMPLES = os.path.join(os.path.dirname(os.path.abspath(__file__)), "../../examples")
 INVALID, PROTECTED, MALFORMED = 0x400, 0x200, 0x80000900
@@ -369,4 +369,4 @@ def test_explain():
 for test in (test_protected_page, test_in_place, test_entries_as_they_are, test_new_tables, test_guest_in_place,
              test_new_guest_tables, test_random, test_explain):
     test()
-finish()
+report()

@@ -10,7 +10,7 @@ import sys
 import tempfile
 
 sys.dont_write_bytecode = True
-from make_tools import COMMAND, FRAME, Case, call, expect, finish, made  # noqa: E402
+from tools import COMMAND, FRAME, Case, call, expect, made, report  # noqa: E402
 
 FOLDER = os.path.dirname(os.path.abspath(__file__))
 
@@ -45,7 +45,8 @@ FIELDS = [
     ("timer", "3ms", 24, "0000000000bb8000"), ("timer", "1s", 24, "00000000f4240000"), ("timer", "-1", 24, "f" * 16),
     ("timer", "0.25us - 1", 24, "00000000000003ff"), ("timer", "+0x10", 24, "0000000000000010"),
     ("timer", "-9223372036854775808", 24, "8" + "0" * 15), ("comparator", "18446744073709551615", 32, "f" * 16),
-    ("epoch", "X'FFFFFFFFFFFFFFFF'", 40, "f" * 16), ("svc", "X'F0'", 48, "f0"), ("svc1", "1", 49, "01"), ("svc2", "2", 50, "02"),
+    ("epoch", "X'FFFFFFFFFFFFFFFF'", 40, "f" * 16), ("svc", "X'F0'", 48, "f0"), ("svc1", "1", 49, "01"),
+    ("svc2", "2", 50, "02"),
     ("svc3", "255", 51, "ff"), ("code", "20", 52, "14"), ("ilc", "1", 53, "01"), ("interruption", "X'1005'", 54, "1005"),
     ("address", "X'12345678'", 56, "12345678"), ("text", "X'010203040506'", 60, "010203040506"),
     ("reserved", "1", 66, "000000000001"),
@@ -493,7 +494,7 @@ def test_terminal():
     expect(p.returncode == 2 and b"standard output is a terminal" in p.stderr, f"a terminal: {p.stderr}")
 
 
-for test in (test_defaults, test_fields, test_host_tables, test_guest_tables, test_data, test_spaces, test_code, test_known_case,
-             test_from, test_errors, test_many_errors, test_long_texts, test_files, test_terminal):
+for test in (test_defaults, test_fields, test_host_tables, test_guest_tables, test_data, test_spaces, test_code,
+             test_known_case, test_from, test_errors, test_many_errors, test_long_texts, test_files, test_terminal):
     test()
-finish()
+report()

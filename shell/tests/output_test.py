@@ -18,7 +18,10 @@ import sys
 import termios
 import time
 
-COMMAND, FAULTS, FOLDER = (os.path.abspath(name) for name in sys.argv[1:4])
+sys.dont_write_bytecode = True
+from tools import COMMAND, expect, report  # noqa: E402
+
+FAULTS, FOLDER = (os.path.abspath(name) for name in sys.argv[2:4])
 FILES = os.path.join(os.path.dirname(os.path.abspath(__file__)), "../../tests/cases/files")
 PATIENCE = 60  # seconds that anything may take on a busy machine
 SLICE = 65535
@@ -34,15 +37,6 @@ loop AR 1,2
  STPT X'300'
  BC 15,loop
 """
-tests = failures = 0
-
-
-def expect(good, what):
-    global tests, failures
-    tests += 1
-    if not good:
-        failures += 1
-        print(f"output_test: {what[:1000]}")
 
 
 def prepare(ignored=()):
@@ -637,5 +631,4 @@ for test in (test_interrupted, test_interrupted_first, test_own_end, test_second
              test_long_names, test_missing_calls, test_signals_while_writing, test_quiet, test_terminal_refused,
              test_terminal_interrupted, test_terminal_gone):
     test()
-print(f"output_test: {tests} tests, {failures} failed")
-sys.exit(failures > 0)
+report()

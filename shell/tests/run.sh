@@ -149,7 +149,10 @@ test_cases() {
         *) fail "run $file: exit status $status" ;;
         esac
     done
-    drevokas run - < "$FILES/ar.in" 2> /dev/null | cmp -s - "$FILES/ar.out" || fail 'run -'
+    drevokas run - < "$FILES/ar.in" 2> "$OUT/err" | cmp -s - "$FILES/ar.out" || fail 'run -'
+    grep -q '^drevokas: standard input: [ibh]' "$OUT/err" || fail "run -: said $(cat "$OUT/err")"
+    drevokas explain - < "$FILES/record_version_2.in" 2> "$OUT/err" > /dev/null && fail 'explain -'
+    grep -q '^drevokas: standard input: refused, R 2: ' "$OUT/err" || fail "explain -: said $(cat "$OUT/err")"
     tests=$((tests + 1))
 }
 

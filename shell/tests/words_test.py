@@ -1,7 +1,7 @@
 #!/usr/bin/env python3
-"""words_test.py COMMAND: tests of what run and trace say: how a run ended, and what each unit did. First guests made for this, word
-for word; then every kept case file: the columns stand in line, run and trace end with the same words, and the registers that
-trace shows are those that a run of one unit changed. Prints each failure, and a count; fails if there is one."""
+"""words_test.py COMMAND: tests of what run and trace say: how a run ended, and what each unit did. First guests made for this,
+word for word; then every kept case file: the columns stand in line, run and trace end with the same words, and the registers
+that trace shows are those that a run of one unit changed. Prints each failure, and a count; fails if there is one."""
 import glob
 import os
 import pty
@@ -10,29 +10,15 @@ import subprocess
 import sys
 import tempfile
 
-COMMAND = sys.argv[1]
+sys.dont_write_bytecode = True
+from tools import COMMAND, call, expect, report  # noqa: E402
+
 FILES = os.path.join(os.path.dirname(os.path.abspath(__file__)), "../../tests/cases/files")
 UNIT = re.compile(r" *([0-9]+)  [0-9a-f]{8}  .{22}  cc [0-3]  timer [0-9a-f]{16} .{17} us((?:  \S.*)?)")
 EXIT = re.compile(r" *exit  [0-9a-f]{8}  .{22}  cc [0-3]  (?:code [0-9]+: |host fault [0-9a-f]{2} hex, )\S.*")
 CHANGE = re.compile(r"  ([gc]r[0-9]+)=([0-9a-f]{8})(?:, ([0-9]+) more)?")
 CONTROL, GENERAL = 23 + 72, 23 + 136  # the registers in a case file
 MOST_UNITS = 12  # of a kept case file whose registers are compared
-tests = failed = 0
-
-
-def expect(good, message):
-    global tests, failed
-    tests += 1
-    if not good:
-        failed += 1
-        print(f"words_test: {message}", file=sys.stderr)
-
-
-def call(*arguments, data=None):
-    """Exit status, standard output and standard error."""
-    p = subprocess.run([COMMAND, *arguments], input=data, stdout=subprocess.PIPE, stderr=subprocess.PIPE, timeout=20)
-    return p.returncode, p.stdout, p.stderr.decode()
-
 
 HEAD = """time = 1us
 host tables at frame 1
@@ -47,37 +33,51 @@ NEW_PSWS = "\nat guest X'60'\npsw address=X'300', wait=1\npsw address=X'304', wa
 GUESTS = [
     ("svc = X'80'", "LR 1,2\nSVC 5", "intercepted, code 4: SVC 5 at 00000202",
      ["-1 us", "  exit  00000202  SVC   5                 cc 0  code 4: instruction"]),
-    ("interceptions.bit2 = 1", "LPSW X'208'", "intercepted, code 4: LPSW X'208' at 00000200", ["instruction  operand 00000208"]),
-    ("interceptions.bit1 = 1\ngr6 = X'3000'", "L 2,X'4'(,6)\n", "host fault 11 hex, page translation, at host address 00003004, "
+    ("interceptions.bit2 = 1", "LPSW X'208'", "intercepted, code 4: LPSW X'208' at 00000200",
+     ["instruction  operand 00000208"]),
+    ("interceptions.bit1 = 1\ngr6 = X'3000'", "L 2,X'4'(,6)\n",
+     "host fault 11 hex, page translation, at host address 00003004, "
      "by L 2,X'4'(,6) at 00000200", ["host fault 11 hex, page translation, at host address 00003004  operand 00003004"]),
-    ("interceptions.bit1 = 1\npsw.problem = 1", "SPT X'208'", "intercepted, code 8: program exception 02 hex, privileged operation, "
+    ("interceptions.bit1 = 1\npsw.problem = 1", "SPT X'208'",
+     "intercepted, code 8: program exception 02 hex, privileged operation, "
      "by SPT X'208' at 00000200", ["code 8: program exception 02 hex, privileged operation  operand 00000208"]),
-    ("interceptions.bit1 = 1\npsw.mask = 8\ngr1 = X'7FFFFFFF'\ngr2 = 1", "AR 1,2", "intercepted, code 8: program exception 08 hex, "
+    ("interceptions.bit1 = 1\npsw.mask = 8\ngr1 = X'7FFFFFFF'\ngr2 = 1", "AR 1,2",
+     "intercepted, code 8: program exception 08 hex, "
      "fixed-point overflow, by AR 1,2 at 00000200",
      ["  exit  00000200  AR    1,2               cc 3  code 8: program exception 08 hex, fixed-point overflow  gr1=80000000"]),
     ("psw.mask = 8\ngr1 = X'7FFFFFFF'\ngr2 = 1", "AR 1,2" + NEW_PSWS, "intercepted, code 28: wait state, at 00000304",
-     ["  gr1=80000000  program interruption 08 hex  -> 00000304", "  exit  00000304  (wait state)            cc 0  code 28: wait state"]),
+     ["  gr1=80000000  program interruption 08 hex  -> 00000304",
+      "  exit  00000304  (wait state)            cc 0  code 28: wait state"]),
     ("interceptions.bit0 = 1", "bytes X'9200'", "intercepted, code 44: operation exception, by DC X'92000000' at 00000200",
      ["  exit  00000200  DC    X'92000000'       cc 0  code 44: operation exception"]),
-    ("interceptions.bit1 = 1", "bytes X'9200'", "intercepted, code 8: program exception 01 hex, operation, by DC X'92000000' at "
+    ("interceptions.bit1 = 1", "bytes X'9200'",
+     "intercepted, code 8: program exception 01 hex, operation, by DC X'92000000' at "
      "00000200", ["code 8: program exception 01 hex, operation"]),
-    ("interceptions.bit1 = 1\npsw.address = X'201'", "LR 1,2", "intercepted, code 8: program exception 06 hex, specification, at the "
-     "odd address 00000201", ["  exit  00000201  (odd address)           cc 0  code 8: program exception 06 hex, specification"]),
-    ("interceptions.bit1 = 1\npsw.bit0 = 1", "LR 1,2", "intercepted, code 8: program exception 06 hex, specification, PSW malformed: "
+    ("interceptions.bit1 = 1\npsw.address = X'201'", "LR 1,2",
+     "intercepted, code 8: program exception 06 hex, specification, at the "
+     "odd address 00000201",
+     ["  exit  00000201  (odd address)           cc 0  code 8: program exception 06 hex, specification"]),
+    ("interceptions.bit1 = 1\npsw.bit0 = 1", "LR 1,2",
+     "intercepted, code 8: program exception 06 hex, specification, PSW malformed: "
      "bit 0 must be zero, at 00000200", ["  exit  00000200  (PSW malformed)         cc 0  code 8: program exception 06 hex, "
                                          "specification"]),
-    ("interceptions.bit1 = 1\npsw.address = X'10000'", "LR 1,2", "intercepted, code 8: program exception 05 hex, addressing, in "
-     "fetching the instruction at 00010000", ["  exit  00010000  (not fetched)           cc 0  code 8: program exception 05 hex, "
+    ("interceptions.bit1 = 1\npsw.address = X'10000'", "LR 1,2",
+     "intercepted, code 8: program exception 05 hex, addressing, in "
+     "fetching the instruction at 00010000",
+     ["  exit  00010000  (not fetched)           cc 0  code 8: program exception 05 hex, "
                                               "addressing"]),
     ("psw.bit0 = 1", "LR 1,2" + NEW_PSWS, "intercepted, code 28: wait state, at 00000304",
      ["  program interruption 06 hex, PSW bit 0 must be zero  -> 00000304", "wait state"]),
-    ("", "SVC 255" + NEW_PSWS, "intercepted, code 28: wait state, at 00000300", ["  SVC interruption 255  -> 00000300", "wait state"]),
+    ("", "SVC 255" + NEW_PSWS, "intercepted, code 28: wait state, at 00000300",
+     ["  SVC interruption 255  -> 00000300", "wait state"]),
     # an LPSW of the very PSW that a program interruption would load, and one that an interruption stands beside
-    ("", "LPSW X'68'" + NEW_PSWS, "intercepted, code 28: wait state, at 00000304", ["  operand 00000068  -> 00000304", "wait state"]),
+    ("", "LPSW X'68'" + NEW_PSWS, "intercepted, code 28: wait state, at 00000304",
+     ["  operand 00000068  -> 00000304", "wait state"]),
     ("", "LPSW X'6C'" + NEW_PSWS, "intercepted, code 28: wait state, at 00000304",
      ["  operand 0000006c  program interruption 06 hex  -> 00000304", "wait state"]),
     # the new PSW leads to the instruction that follows
-    ("", "bytes X'0000'\nat guest X'68'\npsw address=X'202'\nat guest X'202'\nDIAG 0,0,0", "intercepted, code 4: DIAG 0,0,X'0' at "
+    ("", "bytes X'0000'\nat guest X'68'\npsw address=X'202'\nat guest X'202'\nDIAG 0,0,0",
+     "intercepted, code 4: DIAG 0,0,X'0' at "
      "00000202", ["us  program interruption 01 hex", "instruction"]),
     ("gr2 = X'FFF004'\npsw.amode = 24", "L 1,X'FFC'(,2)\nDIAG 1,2,3\n", "intercepted, code 4: DIAG 1,2,X'3' at 00000204",
      ["  operand 00000000", "instruction"]),
@@ -85,14 +85,16 @@ GUESTS = [
      ["  cr0=00000003, 3 more  operand 00000208", "instruction"]),
     ("psw.per = 1", "LR 1,2", "intercepted, code 32: validity, PSW bit 1 must be zero: PER is not installed, at 00000200",
      ["  exit  00000200  (PSW not installed)     cc 0  code 32: validity, PSW bit 1 must be zero: PER is not installed"]),
-    ("mode = 0\npsw.address = X'201'", "LR 1,2", "intercepted, code 32: validity, mode is 00 hex: bits 4-5 must be 10, for 370-XA",
+    ("mode = 0\npsw.address = X'201'", "LR 1,2",
+     "intercepted, code 32: validity, mode is 00 hex: bits 4-5 must be 10, for 370-XA",
      ["  exit  00000201  (no entry)              cc 0  code 32: validity, mode is 00 hex: bits 4-5 must be 10, for 370-XA"]),
     ("interventions = 4", "LR 1,2", "intercepted, code 40: stop request, at 00000200",
      ["  exit  00000200  LR    1,2               cc 0  code 40: stop request"]),
     ("interventions = 2\npsw.io = 1", "LR 1,2", "intercepted, code 24: I/O request, at 00000200", ["code 24: I/O request"]),
     ("interventions = 1\npsw.external = 1", "LR 1,2", "intercepted, code 16: external request, at 00000200",
      ["code 16: external request"]),
-    ("psw.external = 1\ncr0.bit20 = 1\nclock = 1", "LR 1,2", "intercepted, code 20: external interruption 1004 hex, clock comparator, "
+    ("psw.external = 1\ncr0.bit20 = 1\nclock = 1", "LR 1,2",
+     "intercepted, code 20: external interruption 1004 hex, clock comparator, "
      "at 00000200", ["code 20: external interruption 1004 hex, clock comparator"]),
     ("budget = 1", "LR 1,2", "budget used: 1 unit completed", ["-1 us"]),
     ("budget = 2", "LR 1,2\nLR 1,2", "budget used: 2 units completed", ["-1 us", "-2 us"]),
@@ -101,7 +103,8 @@ GUESTS = [
      ["  timer 7fffffffffffffff 2251799813685247. us"]),
     # page 0 has no translation: an address of zeros is an address
     ("psw.dat = 1\npsw.address = X'1000'\nguest tables at real X'2000'\nmap virtual X'1000' to real X'1000'",
-     "LR 0,0\nat guest X'1000'\nL 1,8\nat guest X'68'\npsw address=X'304', wait=1", "intercepted, code 28: wait state, at 00000304",
+     "LR 0,0\nat guest X'1000'\nL 1,8\nat guest X'68'\npsw address=X'304', wait=1",
+     "intercepted, code 28: wait state, at 00000304",
      ["  operand 00000008  program interruption 11 hex, address 00000000  -> 00000304", "wait state"]),
 ]
 
@@ -113,13 +116,14 @@ def test_guests(folder):
         for line in settings.split("\n"):
             head = re.sub(rf"(?m)^{re.escape(line.split('=')[0])}=.*\n", "", head) if "=" in line else head
         text = f"{head}{settings}\nat guest X'200'\n{contents}\n"
-        status, _, err = call("make", "-", "-o", name, data=text.encode())
+        status, _, err = call("make", "-", "-o", name, text=text.encode())
         expect(status == 0, f"{text}: {err}")
         status, out, err = call("run", name)
         expect(status == 0 and err == f"drevokas: {name}: {sentence}\n", f"{settings!r}: {err}")
         status, lines, err = call("trace", name)
         lines = lines.decode().split("\n")
-        expect(lines[-2] + "\n" == out.decode() and lines[-1] == "" and err == f"drevokas: {name}: {sentence}\n", f"trace: {err}")
+        expect(lines[-2] + "\n" == out.decode() and lines[-1] == "" and err == f"drevokas: {name}: {sentence}\n",
+               f"trace: {err}")
         expect(len(lines) == len(ends) + 2 and all(a.endswith(b) for a, b in zip(lines, ends)), f"{settings!r}: {lines}")
 
 
@@ -152,7 +156,7 @@ def test_registers(file, lines, folder):
     name = os.path.join(folder, "step.case")
     before = open(file, "rb").read()
     for line in lines:
-        call("run", "-", "--budget", "1", "--after", name, data=before)
+        call("run", "-", "--budget", "1", "--after", name, text=before)
         after = open(name, "rb").read()
         want = shown("gr", changes(before, after, GENERAL)) + shown("cr", changes(before, after, CONTROL))
         expect(CHANGE.findall(line) == want, f"{file}: {line}: registers {want}")
@@ -210,9 +214,10 @@ def test_terminal():
 def test_one(folder):
     """One of a thing is not called as many are."""
     name = os.path.join(folder, "one.case")
-    call("make", "-", "-o", name, data=b"frames = 1\ntime = 1\nbudget = 1\nlength = 1\nilc = 1\nlctl = X'8'\n")
+    call("make", "-", "-o", name, text=b"frames = 1\ntime = 1\nbudget = 1\nlength = 1\nilc = 1\nlctl = X'8'\n")
     explained = re.sub(" +", " ", call("explain", name)[1].decode())
-    for line in ("time per unit 1 clock unit, 0.000244140625 us", "budget 1 unit\n", "storage 1 frame, ", " 1 byte: must be 200",
+    for line in ("time per unit 1 clock unit, 0.000244140625 us", "budget 1 unit\n", "storage 1 frame, ",
+                 " 1 byte: must be 200",
                  "instruction-length code: 1 halfword\n", "of control register 12\n"):
         expect(line in explained, f"explain does not say {line!r}")
 
@@ -224,5 +229,4 @@ with tempfile.TemporaryDirectory() as place:
     test_kept(place)
 test_wide_numbers()
 test_terminal()
-print(f"{tests} tests of words, {failed} failed")
-sys.exit(failed != 0)
+report()

@@ -1,5 +1,5 @@
-"""What the tests of `drevokas make` have in common: calls of the command, which is the first argument, case files taken apart,
-and the count of tests."""
+"""What the tests of the command have in common: its calls (it is the first argument), case files taken apart, and the count of
+tests."""
 import os
 import struct
 import subprocess
@@ -15,10 +15,10 @@ def expect(good, what):
     tests += 1
     if not good:
         failures += 1
-        print(f"{os.path.basename(sys.argv[0])}: {what}")
+        print(f"{os.path.basename(sys.argv[0])}: {what[:1000]}")
 
 
-def finish():
+def report():
     """Prints the count, and ends with status 1 if a test has failed."""
     print(f"{os.path.basename(sys.argv[0])}: {tests} tests, {failures} failed")
     sys.exit(failures > 0)
@@ -51,5 +51,5 @@ def made(text, *options, what="text"):
     status, out, err = call("make", "-", *options, text=text.encode())
     expect(status == 0 and err == "", f"{what}: exit status {status}: {err}")
     if status != 0:
-        finish()
+        report()
     return Case(out)
