@@ -40,7 +40,7 @@ page-in-extent : (g : Guest) (a : ℕ) → ltb a (extentBytes g) ≡ true → In
 page-in-extent g a e = let h : a < extentBytes g = ltb-true _ _ e in record { low = omega arith; high = omega arith }
 
 -- what holds of a host entry that is read and of one that is not holds of each
-read-or-not : (P : TableEntry → Type 0) (s : List ℕ) (v at : ℕ) → (at + 4 ≤ length s → P (Word (wordAt s at))) → P (Unread (hostFault v addressing)) → P (hostEntry s v at)
+pub read-or-not : (P : TableEntry → Type 0) (s : List ℕ) (v at : ℕ) → (at + 4 ≤ length s → P (Word (wordAt s at))) → P (Unread (hostFault v addressing)) → P (hostEntry s v at)
 unfolding hostEntry
 read-or-not P s v at can cannot = go (leb (at + 4) (length s)) refl
   where
