@@ -42,14 +42,10 @@ exceptionKind = 4
 abbrev pub goodKind : ℕ
 goodKind = 5
 
--- interception code 32
-abbrev pub validityCode : ℕ
-validityCode = 32
-
 unfoldable pub packedCheck : Checked → ℕ
 packedCheck (checked.Refused number) = packed refusedKind number 0
 packedCheck checked.Good = packed goodKind 0 0
-packedCheck checked.Validity = packed interceptedKind validityCode 0
+packedCheck checked.Validity = packed interceptedKind (reasonCode Validity) 0
 
 unfoldable pub packedFailure : Failure → ℕ
 packedFailure f = cond (f .host) (packed hostFaultKind (f .code) 0) (packed exceptionKind (f .code) 0)
@@ -57,7 +53,7 @@ packedFailure f = cond (f .host) (packed hostFaultKind (f .code) 0) (packed exce
 unfoldable pub packedTranslation : Translated → ℕ
 packedTranslation (translated.Refused number) = packed refusedKind number 0
 packedTranslation (translated.Address a) = packed goodKind 0 0
-packedTranslation translated.Validity = packed interceptedKind validityCode 0
+packedTranslation translated.Validity = packed interceptedKind (reasonCode Validity) 0
 packedTranslation (translated.Failed f) = packedFailure f
 
 -- the host absolute address of a translation, the host virtual address of a host fault, else zero; a refusal leaves what stood there

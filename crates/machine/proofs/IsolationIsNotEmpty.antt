@@ -12,7 +12,7 @@ use Rattle.machine.specs.declared.Numbers.{Numbers}
 use Rattle.machine.specs.declared.Reason.the-variants.{Instruction, Program}
 use Rattle.machine.specs.Words.{byteAt, wordAt, wordsAt, wordBytes, wordsBytes}
 use Rattle.machine.specs.Record.{guestOf, cpuOf, pswOf, pswBytes, withCpu, withResults}
-use Rattle.machine.specs.Refusals.{wrongLength, wrongVersion, wrongStorage, wrongKeys, wrongBudget, wrongTime, reservedUsed, runVerdict}
+use Rattle.machine.specs.Refusals.{wrongLength, wrongVersion, wrongStorage, wrongKeys, wrongBudget, wrongTime, used, reservedUsed, runVerdict}
 use Rattle.machine.specs.Entry.{entryGood, modeInstalled, extentFits, prefixFits}
 use Rattle.machine.specs.Psw.{notInstalled, malformed, wrap, withPsw, withTimer, withAddress, advanced}
 use Rattle.machine.specs.Time.{charged}
@@ -112,7 +112,7 @@ module _ (t : ℕ) (small : t < 2) where
       byte i h = sym (getD-set-other (storage₁ t) (place t) i 0x83 0 h)
 
 frame-0 : RunFrame (numbers 1) description (storage₁ 1) (keys₁ 1) 0
-unfolding description numbers storage₁ keys₁ runVerdict wrongLength wrongVersion wrongStorage wrongKeys wrongBudget wrongTime reservedUsed wordAt
+unfolding description numbers storage₁ keys₁ runVerdict wrongLength wrongVersion wrongStorage wrongKeys wrongBudget wrongTime used reservedUsed wordAt
     guestOf entryGood modeInstalled extentFits prefixFits
 frame-0 = record {
   accepted = refl;
@@ -144,7 +144,7 @@ answers : ((runOf (numbers 1) description (storage₁ 1) (keys₁ 1)) .answer �
     × ((runOf (numbers 0) description (storage₂ 0) (keys₂ 0)) .answer
     ≡ Ended (Intercepted (Instruction (record { ilc = 2; first = 0x8300; second = 0; third = 0 }))) 1)
 unfolding description numbers storage₁ keys₁ storage₂ keys₂ place runOf runAs runVerdict wrongLength wrongVersion wrongStorage wrongKeys wrongBudget
-    wrongTime reservedUsed wordAt wordsAt wordsBytes guestOf cpuOf pswOf withCpu withResults entryGood modeInstalled extentFits prefixFits resultOf
+    wrongTime used reservedUsed wordAt wordsAt wordsBytes guestOf cpuOf pswOf withCpu withResults entryGood modeInstalled extentFits prefixFits resultOf
     machineOf endResults results run onward step stepOf unitFrom hostOf behindOf afterUnit afterInterception counted charged withTimer unit instruction halfword reading
     fetchSecond fetchThird decoded intercepts misaligned notInstalled malformed wrap withPsw withAddress advanced access accesses andThen span
     whenReached inPage realPage settle prefixed keyProtects lowProtected view cellOf backing hostPage inStorage hostEntry stored storeByte walk
