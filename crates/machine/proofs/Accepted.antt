@@ -12,7 +12,8 @@ use Rattle.machine.specs.declared.End.the-variants.{Intercepted}
 use Rattle.machine.specs.declared.Numbers.{Numbers}
 use Rattle.machine.specs.declared.Reason.the-variants.{Stop}
 use Rattle.machine.specs.Record.{guestOf}
-use Rattle.machine.specs.Refusals.{frameBytes, mostFrames, mostUnits, mostTime, wrongLength, wrongVersion, wrongStorage, wrongKeys, wrongBudget, wrongTime, reservedUsed, wrongAccess, checkVerdict, translateVerdict, runVerdict}
+use Rattle.machine.specs.Sizes.{frameBytes}
+use Rattle.machine.specs.Refusals.{mostFrames, mostUnits, mostTime, wrongLength, wrongVersion, wrongStorage, wrongKeys, wrongBudget, wrongTime, reservedUsed, wrongAccess, checkVerdict, translateVerdict, runVerdict}
 use Rattle.machine.specs.Units.{stopRequested, unit}
 use Rattle.machine.specs.Run.{Machine, unitFrom, stepOf, step, onward, run}
 use Rattle.machine.specs.Operations.{resultOf, machineOf, runAs, runOf}

@@ -21,7 +21,8 @@ use Rattle.machine.specs.declared.Text.{Text}
 use Rattle.machine.specs.declared.Walk.{Walk}
 use Rattle.machine.specs.declared.Walk.the-variants.{Page, Failed}
 use Rattle.machine.specs.Record.{guestOf, cpuOf}
-use Rattle.machine.specs.Entry.{pageBytes, extentBytes, entryGood}
+use Rattle.machine.specs.Sizes.{pageBytes}
+use Rattle.machine.specs.Entry.{extentBytes, entryGood}
 use Rattle.machine.specs.Psw.{instructionAddress}
 use Rattle.machine.specs.Failures.{protection, isTranslation, hostFault, exceptionOf}
 use Rattle.machine.specs.Walk.{walk, walkSegment, walkPage}

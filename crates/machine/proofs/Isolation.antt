@@ -12,7 +12,8 @@ use Rattle.machine.specs.declared.Reason.the-variants.{Validity}
 use Rattle.machine.specs.declared.Verdict.{Verdict}
 use Rattle.machine.specs.declared.Verdict.the-variants.{Accepted, Refused}
 use Rattle.machine.specs.Record.{guestOf, withResults}
-use Rattle.machine.specs.Refusals.{frameBytes, wrongStorage, wrongKeys, translateVerdict, runVerdict}
+use Rattle.machine.specs.Sizes.{frameBytes}
+use Rattle.machine.specs.Refusals.{wrongStorage, wrongKeys, translateVerdict, runVerdict}
 use Rattle.machine.specs.Entry.{entryGood}
 use Rattle.machine.specs.Host.{Host, host, backing, view}
 use Rattle.machine.specs.Frames.{GuestFrame}

@@ -11,7 +11,8 @@ use Rattle.machine.specs.declared.Verdict.the-variants.{Accepted}
 use Rattle.machine.specs.declared.Walk.{Walk}
 use Rattle.machine.specs.declared.Walk.the-variants.{Page}
 use Rattle.machine.specs.Record.{guestOf, cpuOf, withCpu}
-use Rattle.machine.specs.Refusals.{frameBytes, runVerdict}
+use Rattle.machine.specs.Sizes.{frameBytes}
+use Rattle.machine.specs.Refusals.{runVerdict}
 use Rattle.machine.specs.Entry.{entryGood}
 use Rattle.machine.specs.Frames.{segmentPlace, pagePlace, SegmentInReach, PageInReach, Describes}
 use Rattle.machine.specs.Time.{clockAfter}

@@ -7,7 +7,8 @@ use Rattle.machine.specs.declared.Numbers.{Numbers}
 use Rattle.machine.specs.declared.Verdict.the-variants.{Accepted}
 use Rattle.machine.specs.Words.{byteAt}
 use Rattle.machine.specs.Record.{guestOf}
-use Rattle.machine.specs.Refusals.{frameBytes, runVerdict}
+use Rattle.machine.specs.Sizes.{frameBytes}
+use Rattle.machine.specs.Refusals.{runVerdict}
 use Rattle.machine.specs.Frames.{Describes, GuestFrame}
 use Rattle.machine.specs.Operations.{runOf}
 

@@ -7,7 +7,7 @@ use Rattle.machine.specs.declared.Answer.the-variants.{Ended}
 use Rattle.machine.specs.declared.End.{End}
 use Rattle.machine.specs.declared.Numbers.{Numbers}
 use Rattle.machine.specs.Words.{byteAt}
-use Rattle.machine.specs.Refusals.{frameBytes}
+use Rattle.machine.specs.Sizes.{frameBytes}
 use Rattle.machine.specs.Operations.{runOf}
 use Rattle.machine.specs.Isolation.{RunFrame, AgreeButApart, Agree}
 

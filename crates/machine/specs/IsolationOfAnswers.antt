@@ -6,7 +6,8 @@ use lib.ListN.{length, getD}
 use Rattle.machine.specs.declared.Verdict.the-variants.{Accepted}
 use Rattle.machine.specs.Words.{byteAt}
 use Rattle.machine.specs.Record.{guestOf}
-use Rattle.machine.specs.Refusals.{frameBytes, translateVerdict}
+use Rattle.machine.specs.Sizes.{frameBytes}
+use Rattle.machine.specs.Refusals.{translateVerdict}
 use Rattle.machine.specs.Host.{host}
 use Rattle.machine.specs.Frames.{Describes, GuestFrame}
 use Rattle.machine.specs.Operations.{translate}

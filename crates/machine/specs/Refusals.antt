@@ -7,11 +7,9 @@ use lib.ListN.{length}
 use Rattle.machine.specs.declared.Numbers.{Numbers}
 use Rattle.machine.specs.declared.Verdict.{Verdict}
 use Rattle.machine.specs.declared.Verdict.the-variants.{Accepted, Refused}
+use Rattle.machine.specs.Sizes.{frameBytes}
 use Rattle.machine.specs.Words.{byteAt, halfAt}
 use Rattle.machine.specs.Record.{recordLength, recordVersion}
-
-abbrev pub frameBytes : ℕ
-frameBytes = 4096
 
 abbrev pub mostFrames : ℕ
 mostFrames = 4096

@@ -20,7 +20,8 @@ use Rattle.machine.specs.declared.Walk.{Walk}
 use Rattle.machine.specs.declared.Walk.the-variants.{Page, Failed}
 use Rattle.machine.specs.Words.{byteAt, halfAt, doubleAt}
 use Rattle.machine.specs.Record.{recordLength, recordVersion, pswAt, timerAt, resultsAt, controlAt, guestOf, cpuOf}
-use Rattle.machine.specs.Refusals.{frameBytes, mostFrames, mostUnits, mostTime, checkVerdict, translateVerdict, runVerdict}
+use Rattle.machine.specs.Sizes.{frameBytes}
+use Rattle.machine.specs.Refusals.{mostFrames, mostUnits, mostTime, checkVerdict, translateVerdict, runVerdict}
 use Rattle.machine.specs.Entry.{extentBytes, entryGood}
 use Rattle.machine.specs.Psw.{wrap}
 use Rattle.machine.specs.Time.{guestClock, comparatorDue}
