@@ -11,6 +11,7 @@ use Rattle.machine.specs.declared.End.{End}
 use Rattle.machine.specs.declared.End.the-variants as end
 use Rattle.machine.specs.declared.Failure.{Failure}
 use Rattle.machine.specs.declared.Numbers.{Numbers}
+use Rattle.machine.specs.declared.Reason.the-variants.{Validity}
 use Rattle.machine.specs.declared.Translated.{Translated}
 use Rattle.machine.specs.declared.Translated.the-variants as translated
 use Rattle.machine.specs.Answers.{reasonCode, endAddress}
