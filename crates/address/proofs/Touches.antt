@@ -17,7 +17,8 @@ use Rattle.machine.specs.declared.Walk.{Walk}
 use Rattle.machine.specs.declared.Walk.the-variants.{Page, Failed}
 use Rattle.machine.specs.Words.{byteAt, wordAt}
 use Rattle.machine.specs.Refusals.{framesOf}
-use Rattle.machine.specs.Entry.{pageBytes, extentBytes}
+use Rattle.machine.specs.Sizes.{pageBytes}
+use Rattle.machine.specs.Entry.{extentBytes}
 use Rattle.machine.specs.Psw.{datOn}
 use Rattle.machine.specs.Failures.{protection, hostFault, exceptionOf, walkException}
 use Rattle.machine.specs.Walk.{segmentIndex, pastSegmentTable, segmentInvalid, segmentMalformed, pastPageTable, pageInvalid, pageMalformed, walkPage}

@@ -7,7 +7,7 @@ ghost use mathlib.Core.List.{_++_, _∷_, []};
 ghost use lib.ListN.{length, take};
 ghost use Rattle.io.specs.Counts.{Counts};
 ghost use Rattle.drevokas.specs.Packing.{packedAnswer};
-ghost use Rattle.cases.specs.CaseFile.{countOf, numbersOf, recordOf, keysOf, framesOf, wellFormed, caseOf, answerOf};
+ghost use Rattle.cases.specs.CaseFile.{countOf, numbersOf, recordOf, keysOf, storageOf, wellFormed, caseOf, answerOf};
 ghost use Rattle.cases.specs.Line.{decimal, lineBytes, refusalLine, endLine, lineOf, packedLine};
 use machine::Numbers;
 
@@ -135,10 +135,10 @@ fn room() -> [u8; MOST_BYTES]
 }
 
 // The frames of a case file, at the start.
-fn frames_of(file: &[u8], count: usize) -> [u8; MOST_BYTES]
+fn storage_of(file: &[u8], count: usize) -> [u8; MOST_BYTES]
     requires { ⌜ wellFormed (now file) ≡ true ⌝ }
     requires { ⌜ count ≡ countOf (now file) ⌝ }
-    ensures { λ r. ⌜ (length r ≡ 32768) × (take (count * 4096) r ≡ framesOf (now (file .entry))) ⌝ }
+    ensures { λ r. ⌜ (length r ≡ 32768) × (take (count * 4096) r ≡ storageOf (now (file .entry))) ⌝ }
 {
     let mut part = room();
     let at = KEYS + count;
@@ -153,7 +153,7 @@ fn run_parts(file: &[u8], n: Numbers, count: usize) -> u64
 {
     let mut record = record_of(file);
     let mut keys = keys_of(file, count);
-    let mut frames = frames_of(file, count);
+    let mut frames = storage_of(file, count);
     let used = count * FRAME;
     let mut place = 0;
     drevokas::drevokas_run(

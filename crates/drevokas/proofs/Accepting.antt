@@ -19,10 +19,10 @@ use Rattle.machine.specs.Psw.{wrap}
 use Rattle.machine.specs.Host.{Host, backing}
 use Rattle.machine.specs.Addresses.{Access, reached, denied}
 use Rattle.machine.specs.Operations.{addressIn, translatedTo}
+use Rattle.machine.proofs.Entry.{entry-placed}
 use Rattle.machine.proofs.Verdicts.{accepted-test, length-of-right, keys-of-right}
 use Rattle.storage.specs.Entered.{Entered}
 use Rattle.address.specs.Touching.{seen, placed, touchedBy}
-use Rattle.records.proofs.Entry.{entry-placed}
 use Rattle.drevokas.specs.Packing.{answered}
 
 pub checked-length : (r : List ℕ) → checkVerdict r ≡ Accepted → length r ≡ 200

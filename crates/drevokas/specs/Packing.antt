@@ -11,6 +11,7 @@ use Rattle.machine.specs.declared.End.{End}
 use Rattle.machine.specs.declared.End.the-variants as end
 use Rattle.machine.specs.declared.Failure.{Failure}
 use Rattle.machine.specs.declared.Numbers.{Numbers}
+use Rattle.machine.specs.declared.Reason.the-variants.{Validity}
 use Rattle.machine.specs.declared.Translated.{Translated}
 use Rattle.machine.specs.declared.Translated.the-variants as translated
 use Rattle.machine.specs.Answers.{reasonCode, endAddress}
@@ -42,14 +43,10 @@ exceptionKind = 4
 abbrev pub goodKind : ℕ
 goodKind = 5
 
--- interception code 32
-abbrev pub validityCode : ℕ
-validityCode = 32
-
 unfoldable pub packedCheck : Checked → ℕ
 packedCheck (checked.Refused number) = packed refusedKind number 0
 packedCheck checked.Good = packed goodKind 0 0
-packedCheck checked.Validity = packed interceptedKind validityCode 0
+packedCheck checked.Validity = packed interceptedKind (reasonCode Validity) 0
 
 unfoldable pub packedFailure : Failure → ℕ
 packedFailure f = cond (f .host) (packed hostFaultKind (f .code) 0) (packed exceptionKind (f .code) 0)
@@ -57,7 +54,7 @@ packedFailure f = cond (f .host) (packed hostFaultKind (f .code) 0) (packed exce
 unfoldable pub packedTranslation : Translated → ℕ
 packedTranslation (translated.Refused number) = packed refusedKind number 0
 packedTranslation (translated.Address a) = packed goodKind 0 0
-packedTranslation translated.Validity = packed interceptedKind validityCode 0
+packedTranslation translated.Validity = packed interceptedKind (reasonCode Validity) 0
 packedTranslation (translated.Failed f) = packedFailure f
 
 -- the host absolute address of a translation, the host virtual address of a host fault, else zero; a refusal leaves what stood there

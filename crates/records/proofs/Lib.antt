@@ -1,3 +1,2 @@
--- Laws of the parts of a verdict and of entry.
+-- Laws of the parts of a verdict.
 pub mod Parts
-pub mod Entry

@@ -10,8 +10,7 @@ use Rattle.machine.specs.declared.Guest.{Guest}
 use Rattle.machine.specs.declared.Psw.{Psw}
 use Rattle.machine.specs.declared.Registers.{Registers}
 use Rattle.machine.specs.declared.Text.{Text}
-use Rattle.machine.specs.Refusals.{frameBytes}
-use Rattle.machine.specs.Entry.{pageBytes}
+use Rattle.machine.specs.Sizes.{frameBytes, pageBytes}
 use Rattle.machine.specs.Psw.{wrap, instructionAddress}
 use Rattle.machine.specs.Failures.{exceptionOf}
 use Rattle.machine.specs.Host.{Host}

@@ -1,6 +1,7 @@
 -- `drevokas::pack_check` meets its contract.
 -- Assumes nothing.
 use borrow.Author.Needs.{needs}
+use Rattle.machine.specs.Answers.{reasonCode}
 use Rattle.machine.proofs.Tests.{tests}
 use Rattle.drevokas.specs.Packing.{packedCheck}
 use Rattle.drevokas.proofs.pack_check.Statement.{statement}
@@ -33,7 +34,7 @@ unfolding packedCheck
 returns-2 c = search (tests, c .before .enum-told .given .1)
 
 returns-3 : tie.Need-returns-3
-unfolding packedCheck
+unfolding packedCheck reasonCode
 returns-3 c = search (tests, c .before .enum-told2 .given .1)
 
 pub pack-check-spec : {M : Type 1} → statement M

@@ -1,6 +1,7 @@
 -- `drevokas::pack_translation` meets its contract.
 -- Assumes nothing.
 use borrow.Author.Needs.{needs}
+use Rattle.machine.specs.Answers.{reasonCode}
 use Rattle.machine.proofs.Tests.{tests}
 use Rattle.drevokas.specs.Packing.{packedTranslation}
 use Rattle.drevokas.proofs.pack_translation.Statement.{statement}
@@ -39,7 +40,7 @@ unfolding packedTranslation
 returns-2 c = search (tests, c .before .enum-told .given .1)
 
 returns-3 : tie.Need-returns-3
-unfolding packedTranslation
+unfolding packedTranslation reasonCode
 returns-3 c = search (tests, c .before .enum-told2 .given .1)
 
 returns-4 : tie.Need-returns-4

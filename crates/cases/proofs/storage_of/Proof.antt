@@ -1,14 +1,14 @@
--- `cases::frames_of` meets its contract.
+-- `cases::storage_of` meets its contract.
 -- Assumes nothing.
 use borrow.Author.Needs.{needs}
 use Prim.Native.Nat.{_*_}
 use native.Mathlib.Omega.{arith}
 use mathlib.Core.Path.{ap, sym, _∙_}
 use lib.ListN.{length-take, length-drop}
-use Rattle.cases.specs.CaseFile.{framesOf}
+use Rattle.cases.specs.CaseFile.{storageOf}
 use Rattle.cases.proofs.CaseFiles.{good-length, good-most, frames-length, copied-front, frames-taken}
-use Rattle.cases.proofs.frames_of.Statement.{statement}
-use Rattle.cases.proofs.frames_of.Tie as tie
+use Rattle.cases.proofs.storage_of.Statement.{statement}
+use Rattle.cases.proofs.storage_of.Tie as tie
 
 room-requires : tie.Need-room-requires
 room-requires c κs = search needs
@@ -41,7 +41,7 @@ returns c =
     let file = start .args .file .now in
     let count = start .args .count in (
       c .before .copy .kept .1 .0 ∙ sym (back4 .room .ensures),
-      copied-front _ _ (framesOf file) (count * 4096) (c .before .copy .ensures .1) (frames-taken file count (start .pre .1))
+      copied-front _ _ (storageOf file) (count * 4096) (c .before .copy .ensures .1) (frames-taken file count (start .pre .1))
           (frames-length file (start .pre .0) ∙ ap (λ n. n * 4096) (sym (start .pre .1))),
     )
 
