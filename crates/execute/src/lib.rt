@@ -82,6 +82,8 @@ const PAGE: u32 = 17;
 
 const NONE: u32 = 16;
 
+const FRAME: usize = 4096;
+
 // A host fault: the state is the one before the unit.
 fn faulted(start: Psw, after: Done, f: Failure) -> Done
     ensures { λ r. ⌜ (r .event ≡ Event.Faulted f) × ((c : Cpu) → Before c start after → leftBy c r ≡ c) ⌝ }
@@ -187,9 +189,10 @@ pub fn mark_text(keys: &mut [u8], t: Frames)
     writer::mark_fetched(keys, t.second);
 }
 
-// Stores an old PSW and the code fields of an interruption, the address among them where it is long.
+// Stores an old PSW and the code fields of an interruption, the address among them where it is long, in the frame's part of
+// storage.
 fn put_areas(
-    storage: &mut [u8],
+    part: &mut [u8],
     old: usize,
     psw: Psw,
     code: usize,
@@ -197,15 +200,15 @@ fn put_areas(
     address: u32,
     long: bool,
 )
-    requires { ⌜ old + 8 ≤ length (now storage) ⌝ }
-    requires { ⌜ code + 8 ≤ length (now storage) ⌝ }
-    ensures { λ _. ⌜ now (storage .exit) ≡ sets (sets (now (storage .entry)) old (pswBytes psw)) code (codeBytes word address long) ⌝ }
+    requires { ⌜ old + 8 ≤ length (now part) ⌝ }
+    requires { ⌜ code + 8 ≤ length (now part) ⌝ }
+    ensures { λ _. ⌜ now (part .exit) ≡ sets (sets (now (part .entry)) old (pswBytes psw)) code (codeBytes word address long) ⌝ }
 {
-    words::put_word(storage, old, psw.left);
-    words::put_word(storage, old + 4, psw.right);
-    words::put_word(storage, code, word);
+    words::put_word(part, old, psw.left);
+    words::put_word(part, old + 4, psw.right);
+    words::put_word(part, code, word);
     if long {
-        words::put_word(storage, code + 4, address);
+        words::put_word(part, code + 4, address);
     }
 }
 
@@ -224,15 +227,16 @@ fn interrupt_open(
     ensures { λ _. ⌜ now (storage .exit) ≡ sets (sets (now (storage .entry)) (frame * 4096 + i .old) (pswBytes (after .psw))) (frame * 4096 + i .code) (fieldsOf i) ⌝ }
     ensures { λ _. ⌜ now (keys .exit) ≡ markFrame changed frame (markFrame referenced frame (markText t (now (keys .entry)))) ⌝ }
 {
-    let base = frame as usize * 4096;
+    let base = frame as usize * FRAME;
     let left = words::word_at(storage, base + i.new as usize);
     let right = words::word_at(storage, base + i.new as usize + 4);
     let psw = after.psw;
+    let end = base + FRAME;
     put_areas(
-        storage,
-        base + i.old as usize,
+        &mut storage[base..end],
+        i.old as usize,
         psw,
-        base + i.code as usize,
+        i.code as usize,
         i.word,
         i.address,
         i.long,
