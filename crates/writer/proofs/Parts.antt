@@ -5,9 +5,9 @@ use native.Mathlib.Nat.{le-of-eq, le-add-right, add-suc}
 use native.Mathlib.Omega.{arith}
 use mathlib.Core.Path.{_≡_, refl, sym, ap, _∙_}
 use mathlib.Core.List.{List, [], _∷_, _++_, append-assoc, append-nil}
-use borrow.Rule.Slice.PartMut.{putMid, postOf, post-is, take-put}
+use borrow.Rule.Slice.PartMut.{midOf, postOf, putMid, post-is, put-same, take-put}
 use lib.ListN.{length, take, drop, set, take-append-drop, length-drop, length-set}
-use lib.Seq.{sets, sets-eq, take-all, drop-length, take-set-le, drop-set-add, drop-at, length-take-le, set-append-left}
+use lib.Seq.{sets, length-sets, sets-eq, take-all, drop-length, take-set-le, drop-set-add, drop-at, length-take-le, set-append-left}
 
 -- a part, put back with other elements, is a run of stores
 pub sets-of-part : {A : Type 0} (l : List A) (at : ℕ) (vs : List A) → at + length vs ≤ length l → putMid at (at + length vs - at) l vs ≡ sets l at vs
@@ -37,9 +37,16 @@ module _ {A : Type 0} (l : List A) (at n : ℕ) (inside : at ≤ length l) where
       ∙ set-append-left part (postOf at n l) i v small))
 
   -- a run of stores in a part is that run in the whole, at the part's address
-  pub sets-in-part : (vs part : List A) (i : ℕ) → i + length vs ≤ length part → putMid at n l (sets part i vs) ≡ sets (putMid at n l part) (at + i) vs
+  sets-in-part : (vs part : List A) (i : ℕ) → i + length vs ≤ length part → putMid at n l (sets part i vs) ≡ sets (putMid at n l part) (at + i) vs
   sets-in-part [] part i fits = refl
   sets-in-part (v ∷ vs) part i fits =
       sets-in-part vs (set part i v) (suc i) (rw length-set (omega arith))
       ∙ ap (λ k. sets (putMid at n l (set part i v)) k vs) (add-suc at i)
       ∙ ap (λ whole. sets whole (suc (at + i)) vs) (set-in-part part i v (omega arith))
+
+  -- two runs of stores in the part that was lent
+  pub two-in-part : (us vs : List A) (i j : ℕ) → i + length us ≤ length (midOf at n l) → j + length vs ≤ length (midOf at n l)
+      → putMid at n l (sets (sets (midOf at n l) i us) j vs) ≡ sets (sets l (at + i) us) (at + j) vs
+  two-in-part us vs i j first second =
+      sets-in-part vs (sets (midOf at n l) i us) j (rw length-sets second)
+      ∙ ap (λ whole. sets whole (at + j) vs) (sets-in-part us (midOf at n l) i first ∙ ap (λ whole. sets whole (at + i) us) (put-same at n l))
