@@ -45,8 +45,8 @@ returns c =
           (frames-length file (start .pre .0) ∙ ap (λ n. n * 4096) (sym (start .pre .1))),
     )
 
-pub frames-of-spec : {M : Type 1} → statement M
-frames-of-spec =
+pub storage-of-spec : {M : Type 1} → statement M
+storage-of-spec =
     tie.close
     (tie.spec
     room-requires
