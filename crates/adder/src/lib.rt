@@ -138,3 +138,12 @@ pub fn add_in_place(cpu: &mut Cpu, i: u32, j: u32)
 {
     *cpu = add_registers(*cpu, i, j);
 }
+
+// The same on a state that is handed in and back.
+pub fn added(mut cpu: Cpu, i: u32, j: u32) -> Cpu
+    requires { ⌜ (i < 16) × (j < 16) ⌝ }
+    ensures { λ r. ⌜ r ≡ withSum cpu i (sumOf (general cpu i) (general cpu j)) (sumOverflows (general cpu i) (general cpu j)) ⌝ }
+{
+    add_in_place(&mut cpu, i, j);
+    cpu
+}
