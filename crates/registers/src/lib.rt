@@ -1,17 +1,16 @@
 // The instructions that have no operand in storage: LOAD (LR), ADD, SUBTRACT, BRANCH ON CONDITION, SUPERVISOR CALL and LOAD
 // ADDRESS. Each contract says that the code does what machine's Execute defines for every unit in progress that stands so.
 ghost use mathlib.Core.Path.{_≡_};
-ghost use mathlib.Core.Bool.{cond, not, _&&_};
+ghost use mathlib.Core.Bool.{Bool, cond, not, _&&_};
 ghost use Prim.Native.Nat.{ℕ, _≤_};
 ghost use lib.Dec.{eqb};
 ghost use Rattle.machine.specs.Words.{bits};
 ghost use Rattle.machine.specs.Psw.{conditionCode, overflowEnabled, withAddress};
 ghost use Rattle.machine.specs.Host.{Host, host};
 ghost use Rattle.machine.specs.Outcomes.{Progress};
-ghost use Rattle.machine.specs.Execute.{next, loadRegister, sumCode, summed, add, subtract, selected, branchRegister, branchIndexed, supervisorCall, loadAddress};
+ghost use Rattle.machine.specs.Execute.{next, loadRegister, withSum, summed, add, subtract, selected, branchRegister, branchIndexed, supervisorCall, loadAddress};
 ghost use Rattle.execute.specs.After.{leftBy, WithKeys};
 ghost use Rattle.execute.specs.Reaching.{Ready, Does};
-use adder::Sum;
 use execute::Done;
 use execute::Event;
 use execute::Frames;
@@ -108,7 +107,8 @@ pub fn interrupts(psw: Psw, overflow: bool) -> bool
     false
 }
 
-// A sum: general register and condition code are set, and an overflow that is a program exception comes behind them.
+// A sum, set in the state after it: general register and condition code. An overflow, which is condition code 3, may be a program
+// exception; it comes behind them.
 fn summed(
     storage: &mut [u8],
     keys: &mut [u8],
@@ -117,26 +117,27 @@ fn summed(
     cpu: Cpu,
     text: Text,
     t: Frames,
-    sum: Sum,
+    after: Cpu,
 ) -> Done
     requires { ⌜ Ready (now storage) (now keys) guest text t ⌝ }
-    requires { ⌜ sum .code ≡ sumCode (sum .value) (sum .overflow) ⌝ }
-    ensures { λ r. ⌜ ((clock : ℕ) → Does (λ x. summed x (sum .value) (sum .overflow)) (host designation (now (storage .entry)) (now (keys .entry))) guest clock cpu text t r (now (storage .exit)) (now (keys .exit))) ⌝ }
+    ensures { λ r. ⌜ ((sum : ℕ) (overflow : Bool) (clock : ℕ) → after ≡ withSum cpu (bits 16 8 11 (text .first)) sum overflow
+        → Does (λ x. summed x sum overflow) (host designation (now (storage .entry)) (now (keys .entry))) guest clock cpu text t r (now (storage .exit)) (now (keys .exit))) ⌝ }
 {
     let i = text.first as u32 / 16 % 16;
-    let coded = cpu::with_condition_code(cpu.psw, sum.code);
-    if interrupts(cpu.psw, sum.overflow) {
+    let general = after.general;
+    let value = general.words[i as usize];
+    if interrupts(cpu.psw, cpu::condition_code(after.psw) == 3) {
         let f = Failure {
             host: false,
             code: OVERFLOW,
             address: 0,
         };
-        let done = execute::with_general(cpu, coded, i, sum.value);
+        let done = execute::with_general(cpu, after.psw, i, value);
         return execute::exception(storage, keys, designation, guest, cpu.psw, done, text, f, t);
     }
     execute::mark_text(keys, t);
-    let psw = cpu::advanced(coded, text.ilc as u32);
-    execute::with_general(cpu, psw, i, sum.value)
+    let psw = cpu::advanced(after.psw, text.ilc as u32);
+    execute::with_general(cpu, psw, i, value)
 }
 
 // ADD (AR).
@@ -152,19 +153,8 @@ pub fn add(
     requires { ⌜ Ready (now storage) (now keys) guest text t ⌝ }
     ensures { λ r. ⌜ ((clock : ℕ) → Does add (host designation (now (storage .entry)) (now (keys .entry))) guest clock cpu text t r (now (storage .exit)) (now (keys .exit))) ⌝ }
 {
-    let general = cpu.general;
-    let a = general.words[(text.first as u32 / 16 % 16) as usize];
-    let b = general.words[(text.first as u32 % 16) as usize];
-    summed(
-        storage,
-        keys,
-        designation,
-        guest,
-        cpu,
-        text,
-        t,
-        adder::add(a, b),
-    )
+    let after = adder::added(cpu, text.first as u32 / 16 % 16, text.first as u32 % 16);
+    summed(storage, keys, designation, guest, cpu, text, t, after)
 }
 
 // SUBTRACT (SR).
@@ -181,18 +171,11 @@ pub fn subtract(
     ensures { λ r. ⌜ ((clock : ℕ) → Does subtract (host designation (now (storage .entry)) (now (keys .entry))) guest clock cpu text t r (now (storage .exit)) (now (keys .exit))) ⌝ }
 {
     let general = cpu.general;
-    let a = general.words[(text.first as u32 / 16 % 16) as usize];
+    let i = text.first as u32 / 16 % 16;
+    let a = general.words[i as usize];
     let b = general.words[(text.first as u32 % 16) as usize];
-    summed(
-        storage,
-        keys,
-        designation,
-        guest,
-        cpu,
-        text,
-        t,
-        adder::subtract(a, b),
-    )
+    let after = adder::with_sum(cpu, i, adder::subtract(a, b));
+    summed(storage, keys, designation, guest, cpu, text, t, after)
 }
 
 // SUPERVISOR CALL (SVC): the old PSW has the address after it.

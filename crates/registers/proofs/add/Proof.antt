@@ -1,44 +1,23 @@
 -- `registers::add` meets its contract.
 -- Assumes nothing.
-use mathlib.Core.Path.{sym, _∙_}
 use borrow.Author.Needs.{needs}
-use Rattle.machine.specs.Execute.{sumCode}
+use Rattle.machine.specs.Execute.{sumOf, sumOverflows, add}
 use Rattle.machine.specs.Host.{host}
-use Rattle.registers.proofs.Ending.{added}
+use Rattle.registers.proofs.Ending.{of-registers}
 use Rattle.registers.proofs.add.Statement.{statement}
 use Rattle.registers.proofs.add.Tie as tie
 
-cast-a : tie.Need-cast-a
-cast-a c = search needs
+cast-added : tie.Need-cast-added
+cast-added c = search needs
 
-cast-a-2 : tie.Need-cast-a-2
-cast-a-2 c = search needs
+cast-added-2 : tie.Need-cast-added-2
+cast-added-2 c = search needs
 
-mul-a : tie.Need-mul-a
-mul-a c = search needs
-
-element-copy-out-a : tie.Need-element-copy-out-a
-element-copy-out-a c = search needs
-
-cast-b : tie.Need-cast-b
-cast-b c = search needs
-
-cast-b-2 : tie.Need-cast-b-2
-cast-b-2 c = search needs
-
-mul-b : tie.Need-mul-b
-mul-b c = search needs
-
-element-copy-out-b : tie.Need-element-copy-out-b
-element-copy-out-b c = search needs
-
-add-requires : tie.Need-add-requires
-add-requires c κs = search needs
+added-requires : tie.Need-added-requires
+added-requires c κs = search needs
 
 summed-requires : tie.Need-summed-requires
-summed-requires c κs =
-    let back10 = c .before .before .before .before .before .before .before .before .before .before in
-    (back10 .pre, c .add .ensures .2 ∙ (λ i. sumCode (sym (c .add .ensures .0) i) (sym (c .add .ensures .1) i)))
+summed-requires c κs = search needs
 
 same-length : tie.Need-same-length
 same-length c = search needs
@@ -47,30 +26,22 @@ same-length-2 : tie.Need-same-length-2
 same-length-2 c = search needs
 
 returns : tie.Need-returns
+unfolding add
 returns c =
     let back4 = c .before .before .before .before in
-    let back5 = back4 .before in
-    let back15 = back5 .before .before .before .before .before .before .before .before .before .before in
-    let a = back15 .args in
+    let back7 = back4 .before .before .before in
+    let back12 = back7 .before .before .before .before .before in
     λ clock x standing.
-    added (host (a .designation) _ _) x standing (back4 .summed .result)
-    (back5 .add .result .value) (back5 .add .result .overflow)
-    (back5 .add .ensures .0) (back5 .add .ensures .1)
-    (back4 .summed .ensures clock x standing)
+    of-registers (host (back12 .args .designation) _ _) x standing (back4 .summed .result) sumOf sumOverflows
+    (back4 .summed .ensures _ _ clock (back7 .added .ensures) x standing)
 
 pub add-spec : {M : Type 1} → statement M
 add-spec =
     tie.close
     (tie.spec
-    cast-a
-    cast-a-2
-    mul-a
-    element-copy-out-a
-    cast-b
-    cast-b-2
-    mul-b
-    element-copy-out-b
-    add-requires
+    cast-added
+    cast-added-2
+    added-requires
     summed-requires
     same-length
     same-length-2

@@ -1,19 +1,31 @@
 -- `registers::summed` meets its contract.
 -- Assumes nothing.
 use borrow.Author.Needs.{needs}
-use mathlib.Core.Path.{refl, ap, sym, _∙_}
-use Rattle.registers.proofs.Ending.{small-code, summed-state, summed-interrupts, summed-ends}
+use Prim.Native.Nat.{_/_, _%_, _<_}
+use mathlib.Core.Path.{refl, ap, _∙_}
+use lib.ListN.{length}
 use Rattle.machine.specs.Host.{host}
+use Rattle.machine.specs.Psw.{withPsw, withGeneral}
 use Rattle.execute.specs.After.{leftBy}
-use Rattle.machine.specs.Psw.{withConditionCode}
+use Rattle.adder.proofs.Sums.{sum-state, sum-psw, sum-value}
+use Rattle.registers.proofs.Ending.{sum-interrupts, summed-interrupts, summed-ends}
 use Rattle.registers.proofs.summed.Statement.{statement}
 use Rattle.registers.proofs.summed.Tie as tie
 
 cast-i : tie.Need-cast-i
 cast-i c = search needs
 
-with-condition-code-requires : tie.Need-with-condition-code-requires
-with-condition-code-requires c κs = rw (c .before .before .before .pre .1) (small-code (c .before .before .before .args .sum .value) (c .before .before .before .args .sum .overflow))
+cast-value : tie.Need-cast-value
+cast-value c = search needs
+
+mul-value : tie.Need-mul-value
+mul-value c = search needs
+
+element-copy-out-value : tie.Need-element-copy-out-value
+element-copy-out-value c = search needs
+
+condition-code-requires : tie.Need-condition-code-requires
+condition-code-requires c κs = search needs
 
 interrupts-requires : tie.Need-interrupts-requires
 interrupts-requires c κs = search needs
@@ -37,14 +49,17 @@ returns c =
     let back8 = back7 .before in
     let back9 = back8 .before in
     let back10 = back9 .before in
-    let back14 = back10 .before .before .before .before in
-    let a = back14 .args in
-    λ clock x standing.
-    summed-interrupts (host (a .designation) _ _) x standing (a .sum .value) (a .sum .overflow) (sym (back9 .interrupts .ensures (a .cpu) refl) ∙ back8 .if1 .taken)
+    let back16 = back10 .before .before .before .before .before .before in
+    let a = back16 .args in
+    let i = a .text .first / 16 % 16 in
+    let below : i < length (a .cpu .general .words) = search needs in
+    λ sum overflow clock set x standing.
+    summed-interrupts (host (a .designation) _ _) x standing sum overflow
+    (sum-interrupts (a .cpu) i sum overflow (a .after) set _ (back10 .condition-code .ensures (a .after) refl) _ (back9 .interrupts .ensures (a .cpu) refl) ∙ back8 .if1 .taken)
     (back4 .exception .result) (leftBy (a .cpu) (back7 .with-general .result))
     (back7 .with-general .ensures .1
-    ∙ summed-state (a .cpu) _ (a .sum .value) (a .sum .overflow) (back10 .with-condition-code .result)
-    (back10 .with-condition-code .ensures (a .cpu) refl ∙ ap (λ k. withConditionCode (a .cpu) k .psw) (back14 .pre .1)))
+    ∙ ap (λ v. withPsw (withGeneral (a .cpu) i v) (a .after .psw)) (sum-value (a .cpu) i sum overflow (a .after) set below)
+    ∙ sum-state (a .cpu) i sum overflow (a .after .psw) (sum-psw (a .cpu) i sum overflow (a .after) set))
     (back4 .exception .ensures x clock (a .cpu) standing (back7 .with-general .ensures .2))
 
 mark-text-requires : tie.Need-mark-text-requires
@@ -68,20 +83,27 @@ returns-2 c =
     let back7 = back5 .before .before in
     let back8 = back7 .before in
     let back9 = back8 .before in
-    let back13 = back9 .before .before .before .before in
-    let a = back13 .args in
-    λ clock x standing.
-    summed-ends (host (a .designation) _ _) x standing (a .sum .value) (a .sum .overflow) (sym (back8 .interrupts .ensures (a .cpu) refl) ∙ back7 .if1 .left)
-    (c .with-general2 .result) (back9 .with-condition-code .result) (c .before .advanced .result)
-    (back9 .with-condition-code .ensures (a .cpu) refl ∙ ap (λ k. withConditionCode (a .cpu) k .psw) (back13 .pre .1))
-    (c .before .advanced .ensures) (c .with-general2 .ensures .0) (c .with-general2 .ensures .1) (back5 .mark-text .ensures)
+    let back15 = back9 .before .before .before .before .before .before in
+    let a = back15 .args in
+    let i = a .text .first / 16 % 16 in
+    let below : i < length (a .cpu .general .words) = search needs in
+    λ sum overflow clock set x standing.
+    summed-ends (host (a .designation) _ _) x standing sum overflow
+    (sum-interrupts (a .cpu) i sum overflow (a .after) set _ (back9 .condition-code .ensures (a .after) refl) _ (back8 .interrupts .ensures (a .cpu) refl) ∙ back7 .if1 .left)
+    (c .with-general2 .result) (a .after .psw) (c .before .advanced .result) (sum-psw (a .cpu) i sum overflow (a .after) set)
+    (c .before .advanced .ensures) (c .with-general2 .ensures .0)
+    (c .with-general2 .ensures .1 ∙ ap (λ v. withPsw (withGeneral (a .cpu) i v) (c .before .advanced .result)) (sum-value (a .cpu) i sum overflow (a .after) set below))
+    (back5 .mark-text .ensures)
 
 pub summed-spec : {M : Type 1} → statement M
 summed-spec =
     tie.close
     (tie.spec
     cast-i
-    with-condition-code-requires
+    cast-value
+    mul-value
+    element-copy-out-value
+    condition-code-requires
     interrupts-requires
     with-general-requires
     exception-requires
