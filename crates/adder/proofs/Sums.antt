@@ -6,7 +6,7 @@ use mathlib.Core.Path.{_≡_, refl, ap, _∙_}
 use mathlib.Core.Bool.{Bool, true, false, cond}
 use borrow.Author.Tests.{ne-eqb}
 use lib.Dec.{eqb}
-use lib.ListN.{length}
+use lib.ListN.{length, length-set}
 use lib.Seq.{getD-set-same}
 use Rattle.machine.specs.declared.Cpu.{Cpu}
 use Rattle.machine.specs.declared.Psw.{Psw}
@@ -28,30 +28,30 @@ unfolding sumCode
 small-code sum true = omega arith
 small-code sum false = omega (arith, code-below-three sum)
 
+-- code 3 is an overflow, and no other is
 three-overflows : (sum : ℕ) (overflow : Bool) → eqb (sumCode sum overflow) 3 ≡ overflow
 unfolding sumCode
 three-overflows sum true = refl
 three-overflows sum false = ne-eqb (sumCode sum false) 3 (omega (arith, code-below-three sum))
 
-module _ (c : Cpu) (i sum : ℕ) (overflow : Bool) where
-  -- the state with the sum, by its PSW
-  pub sum-state : (psw : Psw) → psw ≡ withConditionCode c (sumCode sum overflow) .psw → withPsw (withGeneral c i sum) psw ≡ withSum c i sum overflow
+module _ (c : Cpu) (sum : ℕ) (overflow : Bool) where
+  pub coded-overflow : eqb (conditionCode (withConditionCode c (sumCode sum overflow))) 3 ≡ overflow
+  unfolding withConditionCode withPsw
+  coded-overflow =
+      let code : conditionCode (withConditionCode c (sumCode sum overflow)) ≡ sumCode sum overflow = omega (arith, small-code sum overflow) in
+      ap (λ n. eqb n 3) code ∙ three-overflows sum overflow
+
+  -- the state with the sum, by its PSW; and back, of the state that the code has
+  pub sum-state : (i : ℕ) (psw : Psw) → psw ≡ withConditionCode c (sumCode sum overflow) .psw → withPsw (withGeneral c i sum) psw ≡ withSum c i sum overflow
   unfolding withSum withConditionCode withPsw withGeneral
-  sum-state psw coded = ap (withPsw (withGeneral c i sum)) coded
+  sum-state i psw coded = ap (withPsw (withGeneral c i sum)) coded
 
-  -- and back, of the state that the code has
-  module _ (after : Cpu) (set : after ≡ withSum c i sum overflow) where
-    pub sum-psw : after .psw ≡ withConditionCode c (sumCode sum overflow) .psw
-    unfolding withSum withConditionCode withPsw withGeneral
-    sum-psw = ap (λ k. k .psw) set
+  pub sum-psw : (i : ℕ) (after : Cpu) → after ≡ withSum c i sum overflow → after .psw ≡ withConditionCode c (sumCode sum overflow) .psw
+  unfolding withSum withConditionCode withPsw withGeneral
+  sum-psw i after set = ap (λ k. k .psw) set
 
-    pub sum-value : i < length (c .general .words) → general after i ≡ sum
-    unfolding withSum withConditionCode withPsw withGeneral
-    sum-value below = ap (λ k. general k i) set ∙ getD-set-same (c .general .words) i sum 0 below
-
-    -- code 3 is an overflow, and no other is
-    pub sum-overflow : eqb (conditionCode after) 3 ≡ overflow
-    unfolding withSum withConditionCode withPsw withGeneral
-    sum-overflow =
-        let code : conditionCode (withSum c i sum overflow) ≡ sumCode sum overflow = omega (arith, small-code sum overflow) in
-        ap (λ k. eqb (conditionCode k) 3) set ∙ ap (λ n. eqb n 3) code ∙ three-overflows sum overflow
+  pub sum-value : (i : ℕ) (after : Cpu) → after ≡ withSum c i sum overflow → i < length (after .general .words) → general after i ≡ sum
+  unfolding withSum withConditionCode withPsw withGeneral
+  sum-value i after set below =
+      ap (λ k. general k i) set
+      ∙ getD-set-same (c .general .words) i sum 0 (omega (arith, ap (λ k. length (k .general .words)) set, length-set (c .general .words) i sum))

@@ -24,18 +24,18 @@ use Rattle.execute.specs.declared.Frames.{Frames}
 use Rattle.execute.specs.After.{leftBy, markText, Standing, Left, codeBytes}
 use Rattle.execute.proofs.Exceptions.{code-word}
 use Rattle.execute.proofs.Reaching.{past-it, left-finished}
-use Rattle.adder.proofs.Sums.{sum-state, sum-overflow}
+use Rattle.adder.proofs.Sums.{coded-overflow, sum-state}
 
 -- past an instruction goes the PSW alone
 past-general : (c : Cpu) (i value n : ℕ) → advanced (withGeneral c i value) n .psw ≡ advanced c n .psw
 unfolding advanced withAddress withPsw withGeneral wrap
 past-general c i value n = refl
 
--- a sum is a program exception, by the condition code that it leaves
-pub sum-interrupts : (c : Cpu) (i sum : ℕ) (overflow : Bool) (after : Cpu) → after ≡ withSum c i sum overflow
-    → (code : ℕ) → code ≡ conditionCode after → (interrupts : Bool) → interrupts ≡ (eqb code 3 && overflowEnabled c) → (overflow && overflowEnabled c) ≡ interrupts
-sum-interrupts c i sum overflow after set code is interrupts tested =
-    sym (tested ∙ ap (λ b. b && overflowEnabled c) (ap (λ n. eqb n 3) is ∙ sum-overflow c i sum overflow after set))
+-- a sum is a program exception, by the condition code that the code has
+pub sum-interrupts : (c : Cpu) (sum : ℕ) (overflow : Bool) (code : ℕ) → code ≡ conditionCode (withConditionCode c (sumCode sum overflow))
+    → (interrupts : Bool) → interrupts ≡ (eqb code 3 && overflowEnabled c) → (overflow && overflowEnabled c) ≡ interrupts
+sum-interrupts c sum overflow code is interrupts tested =
+    sym (tested ∙ ap (λ b. b && overflowEnabled c) (ap (λ n. eqb n 3) is ∙ coded-overflow c sum overflow))
 
 module _ (h : Host) (x : Progress) {g : Guest} {clock : ℕ} {c : Cpu} {text : Text} {t : Frames} (standing : Standing h x g clock c text t) where
   -- the registers that the text names
@@ -95,15 +95,20 @@ module _ (h : Host) (x : Progress) {g : Guest} {clock : ℕ} {c : Cpu} {text : T
         (finish x (next x (withSum (x .cpu) (r1 x) sum overflow)) [] [])) (enabled ∙ goes)))
         (left-finished h x standing _ d ended
         (left ∙ past-it h x standing (withPsw (withGeneral c (bits 16 8 11 (text .first)) sum) coded) psw (moved _ refl)
-        ∙ ap (next x) (sum-state c _ sum overflow coded code ∙ state))
+        ∙ ap (next x) (sum-state c sum overflow _ coded code ∙ state))
         marks)
 
-  -- ADD and SUBTRACT, by the registers that the code reads
-  pub of-registers : (d : Done) {storage keys : List ℕ} (value : ℕ → ℕ → ℕ) (overflows : ℕ → ℕ → Bool) → (let a = general c (bits 16 8 11 (text .first)) in let b = general c (text .first % 16) in
-      Left h g c (summed x (value a b) (overflows a b)) d storage keys)
-      → (let a = general (x .cpu) (r1 x) in let b = general (x .cpu) (r2 x) in Left h g c (summed x (value a b) (overflows a b)) d storage keys)
-  of-registers d {storage} {keys} value overflows left =
-      subst (λ o. Left h g c o d storage keys) (λ i. summed x (value (first-register i) (second-register i)) (overflows (first-register i) (second-register i))) left
+  -- ADD and SUBTRACT, by what the code has of the sum of its two words
+  pub of-words : (d : Done) {storage keys : List ℕ} (sum : ℕ → ℕ → ℕ) (overflows : ℕ → ℕ → Bool) (coded : Psw) (value : ℕ)
+      → (let a = general c (bits 16 8 11 (text .first)) in let b = general c (text .first % 16) in
+      (coded ≡ withConditionCode c (sumCode (sum a b) (overflows a b)) .psw) × (value ≡ sum a b))
+      → ((overflow : Bool) → coded ≡ withConditionCode c (sumCode value overflow) .psw → Left h g c (summed x value overflow) d storage keys)
+      → (let a = general (x .cpu) (r1 x) in let b = general (x .cpu) (r2 x) in Left h g c (summed x (sum a b) (overflows a b)) d storage keys)
+  of-words d {storage} {keys} sum overflows coded value (code, same) left =
+      let over = overflows (general c (bits 16 8 11 (text .first))) (general c (text .first % 16)) in
+      subst (λ o. Left h g c o d storage keys)
+      (λ i. summed x ((same ∙ (λ j. sum (first-register j) (second-register j))) i) (overflows (first-register i) (second-register i)))
+      (left over (code ∙ ap (λ n. withConditionCode c (sumCode n over) .psw) (sym same)))
 
   -- SUPERVISOR CALL is an interruption behind the instruction
   pub supervisor-called : text .ilc ≤ 3 → (d : Done) {storage keys : List ℕ} (psw : Psw) (after : Cpu) → psw ≡ advanced c (text .ilc) .psw

@@ -5,10 +5,10 @@ ghost use mathlib.Core.Bool.{Bool, cond, not, _&&_};
 ghost use Prim.Native.Nat.{ℕ, _≤_};
 ghost use lib.Dec.{eqb};
 ghost use Rattle.machine.specs.Words.{bits};
-ghost use Rattle.machine.specs.Psw.{conditionCode, overflowEnabled, withAddress};
+ghost use Rattle.machine.specs.Psw.{conditionCode, overflowEnabled, withAddress, withConditionCode};
 ghost use Rattle.machine.specs.Host.{Host, host};
 ghost use Rattle.machine.specs.Outcomes.{Progress};
-ghost use Rattle.machine.specs.Execute.{next, loadRegister, withSum, summed, add, subtract, selected, branchRegister, branchIndexed, supervisorCall, loadAddress};
+ghost use Rattle.machine.specs.Execute.{next, loadRegister, sumCode, summed, add, subtract, selected, branchRegister, branchIndexed, supervisorCall, loadAddress};
 ghost use Rattle.execute.specs.After.{leftBy, WithKeys};
 ghost use Rattle.execute.specs.Reaching.{Ready, Does};
 use execute::Done;
@@ -107,8 +107,8 @@ pub fn interrupts(psw: Psw, overflow: bool) -> bool
     false
 }
 
-// A sum, set in the state after it: general register and condition code. An overflow, which is condition code 3, may be a program
-// exception; it comes behind them.
+// A sum, by the PSW with its condition code and its value: both are set, and an overflow that is a program exception comes behind them.
+// Condition code 3 is an overflow.
 fn summed(
     storage: &mut [u8],
     keys: &mut [u8],
@@ -117,26 +117,25 @@ fn summed(
     cpu: Cpu,
     text: Text,
     t: Frames,
-    after: Cpu,
+    coded: Psw,
+    value: u32,
 ) -> Done
     requires { ⌜ Ready (now storage) (now keys) guest text t ⌝ }
-    ensures { λ r. ⌜ ((sum : ℕ) (overflow : Bool) (clock : ℕ) → after ≡ withSum cpu (bits 16 8 11 (text .first)) sum overflow
-        → Does (λ x. summed x sum overflow) (host designation (now (storage .entry)) (now (keys .entry))) guest clock cpu text t r (now (storage .exit)) (now (keys .exit))) ⌝ }
+    ensures { λ r. ⌜ ((overflow : Bool) (clock : ℕ) → coded ≡ (withConditionCode cpu (sumCode value overflow)) .psw
+        → Does (λ x. summed x value overflow) (host designation (now (storage .entry)) (now (keys .entry))) guest clock cpu text t r (now (storage .exit)) (now (keys .exit))) ⌝ }
 {
     let i = text.first as u32 / 16 % 16;
-    let general = after.general;
-    let value = general.words[i as usize];
-    if interrupts(cpu.psw, cpu::condition_code(after.psw) == 3) {
+    if interrupts(cpu.psw, cpu::condition_code(coded) == 3) {
         let f = Failure {
             host: false,
             code: OVERFLOW,
             address: 0,
         };
-        let done = execute::with_general(cpu, after.psw, i, value);
+        let done = execute::with_general(cpu, coded, i, value);
         return execute::exception(storage, keys, designation, guest, cpu.psw, done, text, f, t);
     }
     execute::mark_text(keys, t);
-    let psw = cpu::advanced(after.psw, text.ilc as u32);
+    let psw = cpu::advanced(coded, text.ilc as u32);
     execute::with_general(cpu, psw, i, value)
 }
 
@@ -153,8 +152,21 @@ pub fn add(
     requires { ⌜ Ready (now storage) (now keys) guest text t ⌝ }
     ensures { λ r. ⌜ ((clock : ℕ) → Does add (host designation (now (storage .entry)) (now (keys .entry))) guest clock cpu text t r (now (storage .exit)) (now (keys .exit))) ⌝ }
 {
-    let after = adder::added(cpu, text.first as u32 / 16 % 16, text.first as u32 % 16);
-    summed(storage, keys, designation, guest, cpu, text, t, after)
+    let i = text.first as u32 / 16 % 16;
+    let after = adder::added(cpu, i, text.first as u32 % 16);
+    let general = after.general;
+    let value = general.words[i as usize];
+    summed(
+        storage,
+        keys,
+        designation,
+        guest,
+        cpu,
+        text,
+        t,
+        after.psw,
+        value,
+    )
 }
 
 // SUBTRACT (SR).
@@ -171,11 +183,21 @@ pub fn subtract(
     ensures { λ r. ⌜ ((clock : ℕ) → Does subtract (host designation (now (storage .entry)) (now (keys .entry))) guest clock cpu text t r (now (storage .exit)) (now (keys .exit))) ⌝ }
 {
     let general = cpu.general;
-    let i = text.first as u32 / 16 % 16;
-    let a = general.words[i as usize];
+    let a = general.words[(text.first as u32 / 16 % 16) as usize];
     let b = general.words[(text.first as u32 % 16) as usize];
-    let after = adder::with_sum(cpu, i, adder::subtract(a, b));
-    summed(storage, keys, designation, guest, cpu, text, t, after)
+    let sum = adder::subtract(a, b);
+    let coded = cpu::with_condition_code(cpu.psw, sum.code);
+    summed(
+        storage,
+        keys,
+        designation,
+        guest,
+        cpu,
+        text,
+        t,
+        coded,
+        sum.value,
+    )
 }
 
 // SUPERVISOR CALL (SVC): the old PSW has the address after it.

@@ -22,7 +22,7 @@ unfolding withPsw withGeneral
 returns c =
     let start = c .before .before .before in
     let a = start .args in
-    sum-state (a .cpu) (a .i) (a .sum .value) (a .sum .overflow) (c .with-condition-code .result)
+    sum-state (a .cpu) (a .sum .value) (a .sum .overflow) (a .i) (c .with-condition-code .result)
     (c .with-condition-code .ensures (a .cpu) refl ∙ ap (λ n. withConditionCode (a .cpu) n .psw) (start .pre .1))
 
 pub with-sum-spec : {M : Type 1} → statement M

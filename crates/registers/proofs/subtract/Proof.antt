@@ -1,19 +1,20 @@
 -- `registers::subtract` meets its contract.
 -- Assumes nothing.
 use borrow.Author.Needs.{needs}
-use Prim.Native.Nat.{_/_, _%_}
-use mathlib.Core.Path.{sym, _∙_}
-use Rattle.machine.specs.Execute.{sumCode, withSum, differenceOf, differenceOverflows, subtract}
+use mathlib.Core.Path.{refl, ap, _∙_}
+use Rattle.machine.specs.Execute.{differenceOf, differenceOverflows, subtract}
 use Rattle.machine.specs.Host.{host}
-use Rattle.registers.proofs.Ending.{of-registers}
+use Rattle.machine.specs.Psw.{withConditionCode}
+use Rattle.adder.proofs.Sums.{small-code}
+use Rattle.registers.proofs.Ending.{of-words}
 use Rattle.registers.proofs.subtract.Statement.{statement}
 use Rattle.registers.proofs.subtract.Tie as tie
 
-cast-i : tie.Need-cast-i
-cast-i c = search needs
-
 cast-a : tie.Need-cast-a
 cast-a c = search needs
+
+cast-a-2 : tie.Need-cast-a-2
+cast-a-2 c = search needs
 
 mul-a : tie.Need-mul-a
 mul-a c = search needs
@@ -36,9 +37,8 @@ element-copy-out-b c = search needs
 subtract-requires : tie.Need-subtract-requires
 subtract-requires c κs = search needs
 
-with-sum-requires : tie.Need-with-sum-requires
-with-sum-requires c κs =
-    (search needs, c .subtract .ensures .2 ∙ (λ i. sumCode (sym (c .subtract .ensures .0) i) (sym (c .subtract .ensures .1) i)))
+with-condition-code-requires : tie.Need-with-condition-code-requires
+with-condition-code-requires c κs = rw (c .subtract .ensures .2) (small-code _ _)
 
 summed-requires : tie.Need-summed-requires
 summed-requires c κs = search needs
@@ -56,17 +56,19 @@ returns c =
     let back7 = back4 .before .before .before in
     let back8 = back7 .before in
     let back16 = back8 .before .before .before .before .before .before .before .before in
-    let a = back16 .args in
+    let k = back16 .args .cpu in
     λ clock x standing.
-    of-registers (host (a .designation) _ _) x standing (back4 .summed .result) differenceOf differenceOverflows
-    (back4 .summed .ensures _ _ clock (back7 .with-sum .ensures ∙ (λ i. withSum (a .cpu) (a .text .first / 16 % 16) (back8 .subtract .ensures .0 i) (back8 .subtract .ensures .1 i))) x standing)
+    of-words (host (back16 .args .designation) _ _) x standing (back4 .summed .result) differenceOf differenceOverflows
+    (back7 .with-condition-code .result) (back8 .subtract .result .value)
+    (back7 .with-condition-code .ensures k refl ∙ ap (λ n. withConditionCode k n .psw) (back8 .subtract .ensures .2), back8 .subtract .ensures .0)
+    (λ overflow coded. back4 .summed .ensures overflow clock coded x standing)
 
 pub subtract-spec : {M : Type 1} → statement M
 subtract-spec =
     tie.close
     (tie.spec
-    cast-i
     cast-a
+    cast-a-2
     mul-a
     element-copy-out-a
     cast-b
@@ -74,7 +76,7 @@ subtract-spec =
     mul-b
     element-copy-out-b
     subtract-requires
-    with-sum-requires
+    with-condition-code-requires
     summed-requires
     same-length
     same-length-2
