@@ -21,12 +21,12 @@ packed-at [] none k h = absurd (not-suc-le-zero h)
 packed-at (r ∷ rows) none zero h = refl
 packed-at (r ∷ rows) none (suc k) h = packed-at rows none k (le-of-suc-le-suc h)
 
-classes : List Class
+-- the classes in their order
+abbrev pub classes : List Class
 classes = Lr ∷ Ar ∷ Sr ∷ Bcr ∷ Svc ∷ La ∷ Bc ∷ St ∷ L ∷ Lpsw ∷ Stctl ∷ Lctl ∷ Stck ∷ Spt ∷ Stpt ∷ Mandatory ∷ Unassigned ∷ []
 
 -- a class stands at its code
 placed : (k : Class) → (codeOf k < 17) × (getD classes (codeOf k) Unassigned ≡ k)
-unfolding classes
 placed Lr = (lit< tt, refl)
 placed Ar = (lit< tt, refl)
 placed Sr = (lit< tt, refl)

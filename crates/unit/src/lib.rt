@@ -203,7 +203,8 @@ fn decoded(
     requires { ⌜ Ready (now storage) (now keys) guest text t × (0 < o .alignment) ⌝ }
     ensures { λ r. ⌜ Does (λ x. decoded x o) (host designation (now (storage .entry)) (now (keys .entry))) guest clock cpu text t r (now (storage .exit)) (now (keys .exit)) ⌝ }
 {
-    if unassigned(o.class) {
+    let class = o.class;
+    if unassigned(class) {
         let f = exception_of(OPERATION);
         return execute::excepted(storage, keys, designation, guest, cpu, text, t, f);
     }

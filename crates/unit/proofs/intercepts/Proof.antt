@@ -1,59 +1,61 @@
+-- `unit::intercepts` meets its contract.
+-- Assumes nothing.
+use native.Mathlib.Nat.{div-one}
+use mathlib.Core.Path.{refl, sym, _∙_}
+use mathlib.Core.List.{[], _∷_}
 use borrow.Author.Needs.{needs}
+use Rattle.machine.specs.declared.Class.the-variants.{Svc, Lpsw, Lctl}
+use Rattle.machine.specs.Words.{bits}
+use Rattle.machine.specs.Units.{interceptsLctl, intercepts}
+use Rattle.unit.proofs.Classes.{none-of}
 use Rattle.unit.proofs.intercepts.Statement.{statement}
 use Rattle.unit.proofs.intercepts.Tie as tie
-use Rattle.unit.proofs.intercepts.Reads as reads
-use Rattle.unit.proofs.intercepts.Lts as lts
-use Rattle.cpu.proofs.intercepts_lctl.Reads as intercepts-lctl-reads
-use Rattle.cpu.proofs.intercepts_svc.Reads as intercepts-svc-reads
-use Rattle.cpu.proofs.range_count.Reads as range-count-reads
 
--- src/lib.rt:44:50
 enum-told : tie.Need-enum-told
 enum-told c = search needs
 
--- src/lib.rt:44:50
 cast-intercepts-svc : tie.Need-cast-intercepts-svc
 cast-intercepts-svc c = search needs
 
--- src/lib.rt:44:23
 intercepts-svc-requires : tie.Need-intercepts-svc-requires
 intercepts-svc-requires c κs = search needs
 
--- src/lib.rt:45:24
 enum-told-2 : tie.Need-enum-told-2
 enum-told-2 c = search needs
 
--- src/lib.rt:48:13
 enum-told-3 : tie.Need-enum-told-3
 enum-told-3 c = search needs
 
--- src/lib.rt:48:13
 cast-intercepts-lctl : tie.Need-cast-intercepts-lctl
 cast-intercepts-lctl c = search needs
 
--- src/lib.rt:49:13
 range-count-requires : tie.Need-range-count-requires
 range-count-requires c κs = search needs
 
--- src/lib.rt:46:24
 intercepts-lctl-requires : tie.Need-intercepts-lctl-requires
 intercepts-lctl-requires c κs = search needs
 
--- src/lib.rt:40:1
 returns : tie.Need-returns
-returns c = ?
+unfolding intercepts
+returns c = λ x guest text. rw (c .before .before .enum-told .given .1, guest, text, div-one) (c .intercepts-svc .ensures)
 
--- src/lib.rt:40:1
 returns-2 : tie.Need-returns-2
-returns-2 c = ?
+unfolding intercepts
+returns-2 c = λ x guest text. rw (c .before .enum-told2 .given .1, guest) refl
 
--- src/lib.rt:40:1
 returns-3 : tie.Need-returns-3
-returns-3 c = ?
+unfolding intercepts
+returns-3 c =
+    λ x guest text.
+    rw (c .before .before .before .enum-told3 .given .1)
+    (c .intercepts-lctl .ensures ∙ (λ i. interceptsLctl (sym guest i) (bits 16 8 11 (sym text i .first)) (c .before .range-count .ensures .2 x text i)))
 
--- src/lib.rt:40:1
+-- a class that never asks
 returns-4 : tie.Need-returns-4
-returns-4 c = ?
+unfolding intercepts
+returns-4 c =
+    let other = none-of (Svc ∷ Lpsw ∷ Lctl ∷ []) (c .before .args .class) in
+    λ x guest text. rw (other Svc (c .match .keys4) tt, other Lpsw (c .match .keys4) tt, other Lctl (c .match .keys4) tt)
 
 pub intercepts-spec : {M : Type 1} → statement M
 intercepts-spec =

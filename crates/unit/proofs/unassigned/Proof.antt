@@ -1,20 +1,21 @@
+-- `unit::unassigned` meets its contract.
+-- Assumes nothing.
+use mathlib.Core.Path.{refl, sym}
+use mathlib.Core.List.{[], _∷_}
 use borrow.Author.Needs.{needs}
+use Rattle.machine.specs.declared.Class.the-variants.{Unassigned}
+use Rattle.unit.proofs.Classes.{none-of}
 use Rattle.unit.proofs.unassigned.Statement.{statement}
 use Rattle.unit.proofs.unassigned.Tie as tie
-use Rattle.unit.proofs.unassigned.Reads as reads
-use Rattle.unit.proofs.unassigned.Lts as lts
 
--- src/lib.rt:73:30
 enum-told : tie.Need-enum-told
 enum-told c = search needs
 
--- src/lib.rt:69:1
 returns : tie.Need-returns
-returns c = ?
+returns c = rw (c .enum-told .given .1) refl
 
--- src/lib.rt:69:1
 returns-2 : tie.Need-returns-2
-returns-2 c = ?
+returns-2 c = sym (none-of (Unassigned ∷ []) (c .before .args .class) Unassigned (c .match .keys2) tt)
 
 pub unassigned-spec : {M : Type 1} → statement M
 unassigned-spec = tie.close (tie.spec enum-told returns returns-2)
