@@ -19,6 +19,7 @@ use Rattle.machine.specs.Psw.{problemState, overflowEnabled, instructionAddress
 use Rattle.machine.specs.Failures.{operation, privilegedOperation, specification, fixedPointOverflow, exceptionOf}
 use Rattle.machine.specs.Host.{Cell, Located, view}
 use Rattle.machine.specs.Addresses.{Access, reached, denied, Accesses, all, stopped, andThen, accesses, whenReached}
+use Rattle.machine.specs.Opcodes.{sameClass}
 use Rattle.machine.specs.Outcomes.{Effects, Outcome, completed, intercepted, faulted, Progress}
 use Rattle.machine.specs.Interruptions.{Areas, interrupt, afterException, exception}
 use Rattle.machine.specs.Execute.{operandAddress, finish, fetching, storing, summed, branch, execute, loadRegister, add, subtract, branchRegister, branchIndexed, supervisorCall, loadAddress, store, load, loadPsw, storeControl, loadControl, storeClock, setTimer, storeTimer, interceptInstruction}
@@ -107,9 +108,11 @@ module _ (x : Progress) (cells : (a : ℕ) → CodedCell (x .view a)) where
   coded-decoded : (o : Opcode) → CodedOutcome (decoded x o)
   unfolding decoded interceptInstruction
   coded-decoded o =
-      either CodedOutcome (o .privileged && problemState (x .cpu)) (coded-exception _ (exceptionOf privilegedOperation) (omega arith))
+      either CodedOutcome (sameClass (o .class) Unassigned) (coded-exception _ (exceptionOf operation) (omega arith))
+      (either CodedOutcome (o .privileged && problemState (x .cpu)) (coded-exception _ (exceptionOf privilegedOperation) (omega arith))
       (either CodedOutcome (intercepts (o .class) x) exits
-      (either CodedOutcome (misaligned (o .class) (operandAddress x)) (coded-exception _ (exceptionOf specification) (omega arith)) (coded-execute (o .class))))
+      (either CodedOutcome (misaligned (o .alignment) (operandAddress x)) (coded-exception _ (exceptionOf specification) (omega arith))
+      (coded-execute (o .class)))))
 
   coded-halfword : (n : ℕ) → CodedAccesses (halfword x n)
   unfolding halfword

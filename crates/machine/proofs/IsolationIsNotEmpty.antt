@@ -22,7 +22,7 @@ use Rattle.machine.specs.Frames.{InExtent, segmentPlace, pagePlace, page
 use Rattle.machine.specs.Addresses.{prefixed, realPage, settle, keyProtects, inPage, lowProtected, access, andThen, accesses, span, whenReached}
 use Rattle.machine.specs.Opcodes.{lengthOf, numberOf, find, opcodeOf}
 use Rattle.machine.specs.Interruptions.{withBytes, exception}
-use Rattle.machine.specs.Execute.{addressPart, indexedAddress, finish, storing, store, interceptInstruction, execute}
+use Rattle.machine.specs.Execute.{addressPart, operandAddress, indexedAddress, finish, storing, store, interceptInstruction, execute}
 use Rattle.machine.specs.Units.{intercepts, misaligned, decoded, halfword, reading, fetchThird, fetchSecond, instruction, unit}
 use Rattle.machine.specs.Run.{hostOf, unitFrom, behindOf, afterUnit, afterInterception, stepOf, step, counted, onward, run}
 use Rattle.machine.specs.Answers.{results, endResults}
@@ -148,7 +148,7 @@ unfolding description numbers storage₁ keys₁ storage₂ keys₂ place runOf 
     machineOf endResults results run onward step stepOf unitFrom hostOf behindOf afterUnit afterInterception counted charged withTimer unit instruction halfword reading
     fetchSecond fetchThird decoded intercepts misaligned notInstalled malformed wrap withPsw withAddress advanced access accesses andThen span
     whenReached inPage realPage settle prefixed keyProtects lowProtected view cellOf backing hostPage inStorage hostEntry stored storeByte walk
-    walkSegment walkPage lengthOf numberOf find opcodeOf execute store storing finish addressPart indexedAddress interceptInstruction withBytes
+    walkSegment walkPage lengthOf numberOf find opcodeOf execute store storing finish addressPart operandAddress indexedAddress interceptInstruction withBytes
     exception
 answers = (refl, refl, refl, refl)
 

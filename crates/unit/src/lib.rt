@@ -1,13 +1,15 @@
 // One unit of a guest: the list before it, the fetch of the text, the order of an instruction's tests, and the instruction. The
 // contract of unit equates how it ends, state, storage and keys with machine's unit put into effect.
 ghost use mathlib.Core.Path.{_≡_};
-ghost use mathlib.Core.Bool.{_&&_};
-ghost use Prim.Native.Nat.{ℕ, _≤_};
+ghost use mathlib.Core.Bool.{false, _&&_};
+ghost use Prim.Native.Nat.{ℕ, _≤_, _<_};
 ghost use lib.ListN.{length};
+ghost use Rattle.machine.specs.declared.Class.the-variants.{Unassigned};
 ghost use Rattle.machine.specs.Refusals.{framesOf};
 ghost use Rattle.machine.specs.Psw.{problemState};
 ghost use Rattle.machine.specs.Failures.{exceptionOf};
 ghost use Rattle.machine.specs.Host.{Host, host, view};
+ghost use Rattle.machine.specs.Opcodes.{sameClass};
 ghost use Rattle.machine.specs.Outcomes.{Progress};
 ghost use Rattle.machine.specs.Execute.{interceptInstruction, execute};
 ghost use Rattle.machine.specs.Units.{intercepts, decoded, started, instruction, unit};
@@ -39,27 +41,14 @@ fn intercepts(class: Class, guest: Guest, text: Text) -> bool
     ensures { λ r. ⌜ ((x : Progress) → x .guest ≡ guest → x .text ≡ text → r ≡ intercepts class x) ⌝ }
 {
     match class {
-        Class::Lr => false,
-        Class::Ar => false,
-        Class::Sr => false,
-        Class::Bcr => false,
         Class::Svc => cpu::intercepts_svc(guest, text.first as u32 % 256),
-        Class::La => false,
-        Class::Bc => false,
-        Class::St => false,
-        Class::L => false,
         Class::Lpsw => guest.interceptions / 32 % 2 == 1,
-        Class::Stctl => false,
         Class::Lctl => cpu::intercepts_lctl(
             guest,
             text.first as u32 / 16 % 16,
             cpu::range_count(text),
         ),
-        Class::Stck => false,
-        Class::Spt => false,
-        Class::Stpt => false,
-        Class::Mandatory => false,
-        Class::Unassigned => false,
+        _ => false,
     }
 }
 
@@ -74,6 +63,16 @@ fn intercept_instruction(cpu: Cpu, text: Text) -> Done
         execute::with_psw(cpu, cpu.psw),
         psw,
     )
+}
+
+// No instruction has the opcode.
+fn unassigned(class: Class) -> bool
+    ensures { λ r. ⌜ r ≡ sameClass class Unassigned ⌝ }
+{
+    match class {
+        Class::Unassigned => true,
+        _ => false,
+    }
 }
 
 // A privileged operation in problem state.
@@ -148,8 +147,8 @@ fn perform(
     }
 }
 
-// An instruction whose text is fetched: privilege, interception and alignment are tested before its operand.
-fn decoded(
+// An instruction of an assigned opcode: privilege, interception and alignment are tested before its operand.
+fn assigned(
     storage: &mut [u8],
     keys: &mut [u8],
     designation: u32,
@@ -160,7 +159,7 @@ fn decoded(
     t: Frames,
     o: Opcode,
 ) -> Done
-    requires { ⌜ Ready (now storage) (now keys) guest text t ⌝ }
+    requires { ⌜ Ready (now storage) (now keys) guest text t × (0 < o .alignment) × (sameClass (o .class) Unassigned ≡ false) ⌝ }
     ensures { λ r. ⌜ Does (λ x. decoded x o) (host designation (now (storage .entry)) (now (keys .entry))) guest clock cpu text t r (now (storage .exit)) (now (keys .exit)) ⌝ }
 {
     if forbidden(o.privileged, cpu.psw) {
@@ -172,7 +171,7 @@ fn decoded(
         return intercept_instruction(cpu, text);
     }
     let a = cpu::operand_address(cpu.psw, cpu.general, text);
-    if cpu::misaligned(class, a) {
+    if cpu::misaligned(o.alignment, a) {
         let f = exception_of(SPECIFICATION);
         return execute::excepted(storage, keys, designation, guest, cpu, text, t, f);
     }
@@ -189,6 +188,29 @@ fn decoded(
     )
 }
 
+// An instruction whose text is fetched: the operation is tested first.
+fn decoded(
+    storage: &mut [u8],
+    keys: &mut [u8],
+    designation: u32,
+    guest: Guest,
+    clock: u64,
+    cpu: Cpu,
+    text: Text,
+    t: Frames,
+    o: Opcode,
+) -> Done
+    requires { ⌜ Ready (now storage) (now keys) guest text t × (0 < o .alignment) ⌝ }
+    ensures { λ r. ⌜ Does (λ x. decoded x o) (host designation (now (storage .entry)) (now (keys .entry))) guest clock cpu text t r (now (storage .exit)) (now (keys .exit)) ⌝ }
+{
+    let class = o.class;
+    if unassigned(class) {
+        let f = exception_of(OPERATION);
+        return execute::excepted(storage, keys, designation, guest, cpu, text, t, f);
+    }
+    assigned(storage, keys, designation, guest, clock, cpu, text, t, o)
+}
+
 // The instruction at the PSW's address.
 fn instruction(
     storage: &mut [u8],
@@ -203,22 +225,14 @@ fn instruction(
         (instruction (started guest clock (view guest (host designation (now (storage .entry)) (now (keys .entry)))) cpu 1)) r (now (storage .exit)) (now (keys .exit)) ⌝ }
 {
     let fetched = text::fetch(storage, keys, designation, guest, cpu.psw, cpu.control);
-    let words = fetched.text;
-    let frames = fetched.frames;
-    if fetched.failed {
-        let failure = fetched.failure;
-        return execute::excepted(
-            storage,
-            keys,
-            designation,
-            guest,
-            cpu,
-            words,
-            frames,
-            failure,
-        );
+    let opcode = fetched.opcode;
+    let reading = fetched.reading;
+    let text = reading.text;
+    let t = reading.frames;
+    if reading.failed {
+        let f = reading.failure;
+        return execute::excepted(storage, keys, designation, guest, cpu, text, t, f);
     }
-    let opcode = decode::decode(words.first as u32);
     decoded(
         storage,
         keys,
@@ -226,8 +240,8 @@ fn instruction(
         guest,
         clock,
         cpu,
-        words,
-        frames,
+        text,
+        t,
         opcode,
     )
 }
