@@ -7,7 +7,6 @@ ghost use lib.ListN.{length};
 ghost use Rattle.machine.specs.declared.Class.the-variants.{Unassigned};
 ghost use Rattle.machine.specs.Refusals.{framesOf};
 ghost use Rattle.machine.specs.Psw.{problemState};
-ghost use Rattle.machine.specs.Failures.{exceptionOf};
 ghost use Rattle.machine.specs.Host.{Host, host, view};
 ghost use Rattle.machine.specs.Opcodes.{sameClass};
 ghost use Rattle.machine.specs.Outcomes.{Progress};
@@ -23,7 +22,6 @@ use execute::Event;
 use execute::Frames;
 use machine::Class;
 use machine::Cpu;
-use machine::Failure;
 use machine::Guest;
 use machine::Opcode;
 use machine::Psw;
@@ -85,17 +83,6 @@ fn forbidden(privileged: bool, psw: Psw) -> bool
     false
 }
 
-// A guest program exception with no address.
-fn exception_of(code: u32) -> Failure
-    ensures { λ r. ⌜ r ≡ exceptionOf code ⌝ }
-{
-    Failure {
-        host: false,
-        code,
-        address: 0,
-    }
-}
-
 // No text: the instruction length code is 0.
 fn unfetched() -> Text
     ensures { λ r. ⌜ r ≡ record { ilc = 0; first = 0; second = 0; third = 0 } ⌝ }
@@ -141,7 +128,7 @@ fn perform(
         Class::Stpt => stores::store_timer(storage, keys, designation, guest, cpu, text, t),
         Class::Mandatory => intercept_instruction(cpu, text),
         Class::Unassigned => {
-            let f = exception_of(OPERATION);
+            let f = address::exception_of(OPERATION);
             execute::excepted(storage, keys, designation, guest, cpu, text, t, f)
         }
     }
@@ -163,7 +150,7 @@ fn assigned(
     ensures { λ r. ⌜ Does (λ x. decoded x o) (host designation (now (storage .entry)) (now (keys .entry))) guest clock cpu text t r (now (storage .exit)) (now (keys .exit)) ⌝ }
 {
     if forbidden(o.privileged, cpu.psw) {
-        let f = exception_of(PRIVILEGED_OPERATION);
+        let f = address::exception_of(PRIVILEGED_OPERATION);
         return execute::excepted(storage, keys, designation, guest, cpu, text, t, f);
     }
     let class = o.class;
@@ -172,7 +159,7 @@ fn assigned(
     }
     let a = cpu::operand_address(cpu.psw, cpu.general, text);
     if cpu::misaligned(o.alignment, a) {
-        let f = exception_of(SPECIFICATION);
+        let f = address::exception_of(SPECIFICATION);
         return execute::excepted(storage, keys, designation, guest, cpu, text, t, f);
     }
     perform(
@@ -205,7 +192,7 @@ fn decoded(
 {
     let class = o.class;
     if unassigned(class) {
-        let f = exception_of(OPERATION);
+        let f = address::exception_of(OPERATION);
         return execute::excepted(storage, keys, designation, guest, cpu, text, t, f);
     }
     assigned(storage, keys, designation, guest, clock, cpu, text, t, o)
@@ -267,7 +254,7 @@ fn unit_after(
             cpu.psw,
         ),
         Before::Malformed => {
-            let f = exception_of(SPECIFICATION);
+            let f = address::exception_of(SPECIFICATION);
             let none = Frames {
                 count: 0,
                 first: 0,
