@@ -2,8 +2,8 @@
 // code put into the CPU's state together. Each contract equates with machine's Execute.
 ghost use mathlib.Core.Path.{_≡_};
 ghost use Prim.Native.Nat.{_<_};
-ghost use Rattle.machine.specs.Psw.{general};
 ghost use Rattle.machine.specs.Execute.{excess, sumOf, sumOverflows, differenceOf, differenceOverflows, sumCode, withSum};
+ghost use Rattle.adder.specs.Adding.{added};
 use machine::Cpu;
 
 // 2^31, the excess of a signed word, and 2^32, the number of words.
@@ -104,24 +104,24 @@ pub fn subtract(a: u32, b: u32) -> Sum
 }
 
 // A sum put into general register i, and its condition code into bits 18 and 19 of the PSW.
-pub fn with_sum(cpu: Cpu, i: u32, sum: Sum) -> Cpu
-    requires { ⌜ (i < 16) × (sum .code < 4) × (sum .code ≡ sumCode (sum .value) (sum .overflow)) ⌝ }
+fn with_sum(cpu: Cpu, i: u32, sum: Sum) -> Cpu
+    requires { ⌜ (i < 16) × (sum .code ≡ sumCode (sum .value) (sum .overflow)) ⌝ }
     ensures { λ r. ⌜ r ≡ withSum cpu i (sum .value) (sum .overflow) ⌝ }
 {
     let mut general = cpu.general;
     general.words[i as usize] = sum.value;
-    let left = cpu.psw.left;
-    let coded = left / 16384 * 16384 + sum.code * 4096 + left % 4096;
+    let psw = cpu.psw;
+    let coded = cpu::with_condition_code(psw, sum.code);
     let mut next = cpu;
-    next.psw.left = coded;
+    next.psw = coded;
     next.general = general;
     next
 }
 
 // General register j added to general register i.
-pub fn add_registers(cpu: Cpu, i: u32, j: u32) -> Cpu
+fn add_registers(cpu: Cpu, i: u32, j: u32) -> Cpu
     requires { ⌜ (i < 16) × (j < 16) ⌝ }
-    ensures { λ r. ⌜ r ≡ withSum cpu i (sumOf (general cpu i) (general cpu j)) (sumOverflows (general cpu i) (general cpu j)) ⌝ }
+    ensures { λ r. ⌜ r ≡ added cpu i j ⌝ }
 {
     let general = cpu.general;
     with_sum(
@@ -132,9 +132,18 @@ pub fn add_registers(cpu: Cpu, i: u32, j: u32) -> Cpu
 }
 
 // The same on a state that is lent.
-pub fn add_in_place(cpu: &mut Cpu, i: u32, j: u32)
+fn add_in_place(cpu: &mut Cpu, i: u32, j: u32)
     requires { ⌜ (i < 16) × (j < 16) ⌝ }
-    ensures { λ _. ⌜ now (cpu .exit) ≡ withSum (now (cpu .entry)) i (sumOf (general (now (cpu .entry)) i) (general (now (cpu .entry)) j)) (sumOverflows (general (now (cpu .entry)) i) (general (now (cpu .entry)) j)) ⌝ }
+    ensures { λ _. ⌜ now (cpu .exit) ≡ added (now (cpu .entry)) i j ⌝ }
 {
     *cpu = add_registers(*cpu, i, j);
+}
+
+// The same on a state that is handed in and back.
+pub fn added(mut cpu: Cpu, i: u32, j: u32) -> Cpu
+    requires { ⌜ (i < 16) × (j < 16) ⌝ }
+    ensures { λ r. ⌜ r ≡ added cpu i j ⌝ }
+{
+    add_in_place(&mut cpu, i, j);
+    cpu
 }

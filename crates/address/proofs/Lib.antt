@@ -1,3 +1,4 @@
+pub mod Codes
 pub mod Touches
 pub mod Operands
 pub mod Seen

@@ -3,194 +3,118 @@
 use Prim.Native.Nat.{ℕ, _+_, _/_, _%_, _≤_, _<_}
 use native.Mathlib.Omega.{arith}
 use mathlib.Core.Path.{_≡_, refl, ap, subst}
-use mathlib.Core.Bool.{Bool, true, false, cond, not, _&&_}
+use mathlib.Core.Bool.{Bool, true, false, cond}
 use mathlib.Core.List.{List}
 use borrow.Author.Tests.{leb-false, le-leb}
-use lib.Dec.{leb, ltb}
-use lib.ListN.{length, getD}
+use lib.Dec.{leb}
+use lib.ListN.{length}
 use Rattle.machine.specs.declared.Cpu.{Cpu}
 use Rattle.machine.specs.declared.Failure.{Failure}
 use Rattle.machine.specs.declared.Guest.{Guest}
-use Rattle.machine.specs.declared.TableEntry.{TableEntry}
-use Rattle.machine.specs.declared.TableEntry.the-variants.{Word, Unread}
 use Rattle.machine.specs.declared.Walk.{Walk}
 use Rattle.machine.specs.declared.Walk.the-variants.{Page, Failed}
 use Rattle.machine.specs.Refusals.{framesOf}
-use Rattle.machine.specs.Entry.{extentBytes}
-use Rattle.machine.specs.Psw.{datOn, wrap}
-use Rattle.machine.specs.Failures.{segmentTranslation, pageTranslation, translationSpecification, walkException}
-use Rattle.machine.specs.Walk.{segmentIndex, pastSegmentTable, segmentInvalid, segmentMalformed, pastPageTable, pageInvalid, pageMalformed, walkPage, walkSegment, walk}
-use Rattle.machine.specs.Host.{Host, Located, host, inFrame, hostEntry, inStorage, hostPage, backing, cellOf, view}
-use Rattle.machine.specs.Addresses.{prefixed, entryOf, guestEntry, formatGood, realPage, lowProtected, Access, reached, denied, access}
+use Rattle.machine.specs.Psw.{wrap}
+use Rattle.machine.specs.Host.{Host, Located, host, inFrame, backing, view}
+use Rattle.machine.specs.Addresses.{Access, reached, denied, access}
 use Rattle.machine.proofs.Pages.{backing-in-page, backing-in-storage, reached-is-backed, access-in-page}
 use Rattle.address.specs.declared.Place.{Place}
 use Rattle.address.specs.declared.Place.the-variants.{At, Denied}
 use Rattle.address.specs.declared.Operand.{Operand}
 use Rattle.address.specs.declared.Operand.the-variants.{Open, Shut}
-use Rattle.address.specs.Touching.{settled, touched, placed, touchedBy, touchOf}
+use Rattle.address.specs.Touching.{placed, touchedBy, touchOf}
 use Rattle.address.specs.Operands.{inOnePage, inTwoPages, toPageEnd, operandOf}
-use Rattle.address.proofs.Touches.{touched-is}
+use Rattle.address.proofs.Codes.{Coded, CodedWalk, CodedAccess, coded-backing, coded-view, coded-access}
 
--- a failure, where there is one, has a code of 16 bits
-
-abbrev Coded : Failure → Type 0
-Coded f = f .code < 65536
-
-abbrev CodedEntry : TableEntry → Type 0
-CodedEntry (Word x) = Unit {0}
-CodedEntry (Unread f) = Coded f
-
-abbrev CodedWalk : Walk → Type 0
-CodedWalk (Page frame protected) = Unit {0}
-CodedWalk (Failed f) = Coded f
-
+-- a place, or a failure whose code is a byte
 abbrev CodedPlace : Place → Type 0
 CodedPlace (At p) = Unit {0}
 CodedPlace (Denied f) = Coded f
 
--- what holds of both arms of a test holds of the test
-either : {A : Type 0} (P : A → Type 0) (b : Bool) {x y : A} → P x → P y → P (cond b x y)
-either P true p q = p
-either P false p q = q
-
-module _ (read : ℕ → TableEntry) (fail : ℕ → Failure) (reads : (at : ℕ) → CodedEntry (read at)) (fails : (code : ℕ) → code < 65536 → Coded (fail code)) where
-  coded-page : (e : TableEntry) → CodedEntry e → CodedWalk (walkPage fail e)
-  unfolding walkPage
-  coded-page (Unread f) small = small
-  coded-page (Word e) small =
-      either CodedWalk (pageInvalid e) (fails pageTranslation (omega arith)) (either CodedWalk (pageMalformed e) (fails translationSpecification (omega arith)) tt)
-
-  coded-segment : (index : ℕ) (e : TableEntry) → CodedEntry e → CodedWalk (walkSegment read fail index e)
-  unfolding walkSegment
-  coded-segment index (Unread f) small = small
-  coded-segment index (Word e) small =
-      either CodedWalk (segmentInvalid e) (fails segmentTranslation (omega arith))
-      (either CodedWalk (segmentMalformed e) (fails translationSpecification (omega arith))
-      (either CodedWalk (pastPageTable e index) (fails pageTranslation (omega arith)) (coded-page _ (reads _))))
-
-  coded-walk : (d a : ℕ) → CodedWalk (walk read fail d a)
-  unfolding walk
-  coded-walk d a = either CodedWalk (pastSegmentTable d (segmentIndex a)) (fails segmentTranslation (omega arith)) (coded-segment _ _ (reads _))
-
-coded-host-entry : (s : List ℕ) (v at : ℕ) → CodedEntry (hostEntry s v at)
-unfolding hostEntry
-coded-host-entry s v at = either CodedEntry (leb (at + 4) (length s)) tt (omega arith)
-
-coded-in-storage : (s : List ℕ) (v : ℕ) (w : Walk) → CodedWalk w → CodedWalk (inStorage s v w)
-unfolding inStorage
-coded-in-storage s v (Failed f) small = small
-coded-in-storage s v (Page frame protected) small = either CodedWalk (ltb frame (framesOf s)) tt (omega arith)
-
-module _ (g : Guest) (h : Host) where
-  coded-backing : (a : ℕ) → CodedWalk (backing g h a)
-  unfolding backing hostPage
-  coded-backing a =
-      either CodedWalk (ltb a (extentBytes g)) (coded-in-storage _ _ _ (coded-walk _ _ (coded-host-entry _ _) (λ code small. small) _ _)) (omega arith)
-
-  coded-guest-entry : (real : ℕ) → CodedEntry (guestEntry g (view g h) real)
-  unfolding guestEntry view entryOf cellOf
-  coded-guest-entry real = let a = prefixed g real in behind a (backing g h a) (coded-backing a)
+module _ (g : Guest) (h : Host) (c : Cpu) (store : Bool) where
+  coded-touch : (a : ℕ) → CodedPlace (touchOf g h c store a)
+  unfolding touchedBy placed
+  coded-touch a = of-access (access g (view g h) c store a) (coded-access g (view g h) (coded-view g h) c store a)
     where
-      behind : (a : ℕ) (w : Walk) → CodedWalk w → CodedEntry (entryOf (view g h) a (cellOf h a w))
-      behind a (Failed f) small = small
-      behind a (Page frame protected) small = tt
+      of-page : (a : ℕ) (w : Walk) → CodedWalk w → CodedPlace (placed a w)
+      of-page a (Failed f) small = small
+      of-page a (Page frame protected) small = tt
 
-  module _ (c : Cpu) (store : Bool) where
-    coded-real-page : (a : ℕ) → CodedWalk (realPage g (view g h) c a)
-    unfolding realPage walkException
-    coded-real-page a =
-        either CodedWalk (not (datOn c)) tt
-        (either CodedWalk (not (formatGood c)) (omega arith) (coded-walk _ _ coded-guest-entry (λ code small. small) _ _))
+      of-access : (x : Access) → CodedAccess x → CodedPlace (touchedBy g h x)
+      of-access (denied f) small = small
+      of-access (reached l) small = of-page (l .absolute) (backing g h (l .absolute)) (coded-backing g h (l .absolute))
 
-    coded-settled : (protects : ℕ → Bool) (a : ℕ) (w : Walk) → CodedWalk w → CodedPlace (settled g (h .keys) store protects a w)
-    unfolding settled
-    coded-settled protects a (Failed f) small = small
-    coded-settled protects a (Page frame protected) small =
-        either CodedPlace (protects (getD (h .keys) frame 0)) (omega arith) (either CodedPlace (store && protected) (omega arith) tt)
+  -- what follows where a byte is found: it is at its offset in the host page behind it
+  at-place : {R : Type 0} (a : ℕ) {p : ℕ}
+      → ((l : Located) (frame : ℕ) (protected : Bool) → access g (view g h) c store a ≡ reached l → backing g h (l .absolute) ≡ Page frame protected
+      → inFrame frame (l .absolute) ≡ p → l .absolute % 4096 ≡ a % 4096 → R)
+      → touchOf g h c store a ≡ At p → R
+  unfolding touchedBy placed
+  at-place {R} a {p} onward = by-access (access g (view g h) c store a) refl
+    where
+      by-access : (x : Access) → access g (view g h) c store a ≡ x → touchedBy g h x ≡ At p → R
+      by-access (denied f) found e = let z : _≡_ {A = ℕ} 0 1 = cc in absurd (omega arith)
+      by-access (reached l) found e =
+          let (frame, protected, backed, byte, offset) = reached-is-backed g h c store a found in
+          let there : inFrame frame (l .absolute) ≡ p = cc in
+          onward l frame protected found backed there offset
 
-    coded-touched : (a : ℕ) (w : Walk) → CodedWalk w → CodedPlace (touched g h c store a w)
-    unfolding touched
-    coded-touched a (Failed f) small = small
-    coded-touched a (Page frame protected) small = coded-settled _ _ _ (coded-backing _)
+  place : (a : ℕ) {p : ℕ} → touchOf g h c store a ≡ At p → (p % 4096 ≡ a % 4096) × (p / 4096 < framesOf (h .storage))
+  place a = at-place a λ l frame protected found backed there offset. (omega arith, omega (arith, backing-in-storage g h (l .absolute) backed))
 
-    coded-touch : (a : ℕ) → CodedPlace (touchOf g h c store a)
-    coded-touch a = rw touched-is (either CodedPlace (store && lowProtected c a) (omega arith) (coded-touched a _ (coded-real-page a)))
+  place-further : (a k : ℕ) {p : ℕ} → a % 4096 + k < 4096 → touchOf g h c store a ≡ At p → touchOf g h c store (a + k) ≡ At (p + k)
+  unfolding touchedBy placed
+  place-further a k {p} inside = at-place a λ l frame protected found backed there offset.
+      let next : inFrame frame (l .absolute + k) ≡ p + k = omega arith in
+      rw (access-in-page g h c store a k found backed inside, backing-in-page g h (l .absolute) (l .absolute + k) backed (omega arith)) (ap At next)
 
-    -- what follows where a byte is found: it is at its offset in the host page behind it
-    at-place : {R : Type 0} (a : ℕ) {p : ℕ}
-        → ((l : Located) (frame : ℕ) (protected : Bool) → access g (view g h) c store a ≡ reached l → backing g h (l .absolute) ≡ Page frame protected
-        → inFrame frame (l .absolute) ≡ p → l .absolute % 4096 ≡ a % 4096 → R)
-        → touchOf g h c store a ≡ At p → R
-    unfolding touchedBy placed
-    at-place {R} a {p} onward = by-access (access g (view g h) c store a) refl
+  module _ (a n : ℕ) where
+    abbrev next : ℕ
+    next = wrap c (a + toPageEnd a)
+
+    -- the operand that is found: its places, and how many bytes stand at the first
+    record Parts (p m q : ℕ) : Type 0 where
+      first : touchOf g h c store a ≡ At p
+      second : m < n → touchOf g h c store next ≡ At q
+      within : n ≤ toPageEnd a → (m ≡ n) × (q ≡ 0)
+
+    abbrev Outcome : Operand → Type 0
+    Outcome (Shut f) = Coded f
+    Outcome (Open p m q) = Parts p m q
+
+    in-one : (x : Place) → touchOf g h c store a ≡ x → Outcome (inOnePage n x)
+    unfolding inOnePage
+    in-one (Denied f) e = subst CodedPlace e (coded-touch a)
+    in-one (At p) e = record { first = e; second = λ less. absurd (omega arith); within = λ _. (refl, refl) }
+
+    in-two : (x y : Place) → toPageEnd a < n → touchOf g h c store a ≡ x → touchOf g h c store next ≡ y → Outcome (inTwoPages (toPageEnd a) x y)
+    unfolding inTwoPages
+    in-two (Denied f) y more e d = subst CodedPlace e (coded-touch a)
+    in-two (At p) (Denied f) more e d = subst CodedPlace d (coded-touch next)
+    in-two (At p) (At q) more e d = record { first = e; second = λ _. d; within = λ fits. absurd (omega arith) }
+
+    outcome : Outcome (operandOf g h c store a n)
+    unfolding operandOf
+    outcome = by-test (leb n (toPageEnd a)) refl
       where
-        by-access : (x : Access) → access g (view g h) c store a ≡ x → touchedBy g h x ≡ At p → R
-        by-access (denied f) found e = let z : _≡_ {A = ℕ} 0 1 = cc in absurd (omega arith)
-        by-access (reached l) found e =
-            let (frame, protected, backed, byte, offset) = reached-is-backed g h c store a found in
-            let there : inFrame frame (l .absolute) ≡ p = cc in
-            onward l frame protected found backed there offset
+        by-test : (b : Bool) → leb n (toPageEnd a) ≡ b
+            → Outcome (cond b (inOnePage n (touchOf g h c store a)) (inTwoPages (toPageEnd a) (touchOf g h c store a) (touchOf g h c store next)))
+        by-test true fits = in-one _ refl
+        by-test false crosses = in-two _ _ (leb-false n (toPageEnd a) crosses) refl refl
 
-    place : (a : ℕ) {p : ℕ} → touchOf g h c store a ≡ At p → (p % 4096 ≡ a % 4096) × (p / 4096 < framesOf (h .storage))
-    place a = at-place a λ l frame protected found backed there offset. (omega arith, omega (arith, backing-in-storage g h (l .absolute) backed))
+    -- a failure of an access has a program code, of 16 bits
+    pub operand-code : {f : Failure} → operandOf g h c store a n ≡ Shut f → f .code < 65536
+    operand-code {f} e = let small : Coded f = subst Outcome e outcome in omega arith
 
-    place-further : (a k : ℕ) {p : ℕ} → a % 4096 + k < 4096 → touchOf g h c store a ≡ At p → touchOf g h c store (a + k) ≡ At (p + k)
-    unfolding touchedBy placed
-    place-further a k {p} inside = at-place a λ l frame protected found backed there offset.
-        let next : inFrame frame (l .absolute + k) ≡ p + k = omega arith in
-        rw (access-in-page g h c store a k found backed inside, backing-in-page g h (l .absolute) (l .absolute + k) backed (omega arith)) (ap At next)
+    parts : {p m q : ℕ} → operandOf g h c store a n ≡ Open p m q → Parts p m q
+    parts e = subst Outcome e outcome
 
-    module _ (a n : ℕ) where
-      abbrev next : ℕ
-      next = wrap c (a + toPageEnd a)
+    -- the first byte stands at the address's offset
+    pub operand-offset : {p m q : ℕ} → operandOf g h c store a n ≡ Open p m q → p % 4096 ≡ a % 4096
+    operand-offset e = place a (parts e .first) .0
 
-      -- the operand that is found: its places, and how many bytes stand at the first
-      record Parts (p m q : ℕ) : Type 0 where
-        first : touchOf g h c store a ≡ At p
-        second : m < n → touchOf g h c store next ≡ At q
-        some : 0 < n → 0 < m
-        within : n ≤ toPageEnd a → (m ≡ n) × (q ≡ 0)
-
-      abbrev Outcome : Operand → Type 0
-      Outcome (Shut f) = Coded f
-      Outcome (Open p m q) = Parts p m q
-
-      in-one : (x : Place) → touchOf g h c store a ≡ x → Outcome (inOnePage n x)
-      unfolding inOnePage
-      in-one (Denied f) e = subst CodedPlace e (coded-touch a)
-      in-one (At p) e = record { first = e; second = λ less. absurd (omega arith); some = λ some. some; within = λ _. (refl, refl) }
-
-      in-two : (x y : Place) → toPageEnd a < n → touchOf g h c store a ≡ x → touchOf g h c store next ≡ y → Outcome (inTwoPages (toPageEnd a) x y)
-      unfolding inTwoPages
-      in-two (Denied f) y more e d = subst CodedPlace e (coded-touch a)
-      in-two (At p) (Denied f) more e d = subst CodedPlace d (coded-touch next)
-      in-two (At p) (At q) more e d = record { first = e; second = λ _. d; some = λ _. omega arith; within = λ fits. absurd (omega arith) }
-
-      outcome : Outcome (operandOf g h c store a n)
-      unfolding operandOf
-      outcome = by-test (leb n (toPageEnd a)) refl
-        where
-          by-test : (b : Bool) → leb n (toPageEnd a) ≡ b
-              → Outcome (cond b (inOnePage n (touchOf g h c store a)) (inTwoPages (toPageEnd a) (touchOf g h c store a) (touchOf g h c store next)))
-          by-test true fits = in-one _ refl
-          by-test false crosses = in-two _ _ (leb-false n (toPageEnd a) crosses) refl refl
-
-      -- a failure of an access has a code of 16 bits
-      pub operand-code : {f : Failure} → operandOf g h c store a n ≡ Shut f → f .code < 65536
-      operand-code e = subst Outcome e outcome
-
-      parts : {p m q : ℕ} → operandOf g h c store a n ≡ Open p m q → Parts p m q
-      parts e = subst Outcome e outcome
-
-      -- the first byte stands at the address's offset
-      pub operand-offset : {p m q : ℕ} → operandOf g h c store a n ≡ Open p m q → p % 4096 ≡ a % 4096
-      operand-offset e = place a (parts e .first) .0
-
-      pub operand-count : {p m q : ℕ} → 0 < n → operandOf g h c store a n ≡ Open p m q → 0 < m
-      operand-count some e = parts e .some some
-
-      pub operand-in-page : {p m q : ℕ} → a % 4096 + n ≤ 4096 → operandOf g h c store a n ≡ Open p m q → (m ≡ n) × (q ≡ 0)
-      operand-in-page fits e = parts e .within (omega arith)
+    pub operand-in-page : {p m q : ℕ} → a % 4096 + n ≤ 4096 → operandOf g h c store a n ≡ Open p m q → (m ≡ n) × (q ≡ 0)
+    operand-in-page fits e = parts e .within (omega arith)
 
 -- each frame that an operand stands in has a key
 pub operand-keys : (g : Guest) (d : ℕ) (s k : List ℕ) (c : Cpu) (store : Bool) (a n : ℕ) {p m q : ℕ} → framesOf s ≤ length k

@@ -17,7 +17,8 @@ use Rattle.machine.specs.declared.Walk.{Walk}
 use Rattle.machine.specs.declared.Walk.the-variants.{Page, Failed}
 use Rattle.machine.specs.Words.{byteAt, wordAt}
 use Rattle.machine.specs.Refusals.{framesOf}
-use Rattle.machine.specs.Entry.{pageBytes, extentBytes}
+use Rattle.machine.specs.Sizes.{pageBytes}
+use Rattle.machine.specs.Entry.{extentBytes}
 use Rattle.machine.specs.Psw.{datOn}
 use Rattle.machine.specs.Failures.{protection, hostFault, exceptionOf, walkException}
 use Rattle.machine.specs.Walk.{segmentIndex, pastSegmentTable, segmentInvalid, segmentMalformed, pastPageTable, pageInvalid, pageMalformed, walkPage}
@@ -29,6 +30,7 @@ use Rattle.storage.specs.Steps.{tableLeads, segmentLeads}
 use Rattle.storage.proofs.Steps.{walk-in-steps}
 use Rattle.address.specs.Touching.{Aligned, Inside, Small, Backed, entryBehind, settled, guestProtects, touched, placed, touchedBy}
 use Rattle.address.specs.declared.Place.the-variants.{At, Denied}
+use Rattle.address.proofs.Codes.{either}
 
 -- the keys play no part in the host page behind an address
 pub backing-keyless : (g : Guest) (d : ℕ) (s k : List ℕ) (a : ℕ) → backing g (host d s k) a ≡ backing g (host d s []) a
@@ -98,36 +100,28 @@ inside-backing g d s a = by-walk (backing g (host d s []) a) refl
 
 -- the steps of a walk lead to aligned entries
 
-either-aligned : (b : Bool) (x y : TableEntry) → Aligned x → Aligned y → Aligned (cond b x y)
-either-aligned true x y p q = p
-either-aligned false x y p q = q
-
 pub aligned-tableLeads : (fail : ℕ → Failure) (d a : ℕ) → Aligned (tableLeads fail d a)
 unfolding tableLeads
-aligned-tableLeads fail d a = either-aligned (pastSegmentTable d (segmentIndex a)) _ _ tt (omega arith)
+aligned-tableLeads fail d a = either Aligned (pastSegmentTable d (segmentIndex a)) tt (omega arith)
 
 pub aligned-segmentLeads : (fail : ℕ → Failure) (index : ℕ) (e : TableEntry) → Aligned (segmentLeads fail index e)
 unfolding segmentLeads
 aligned-segmentLeads fail index (Unread f) = tt
 aligned-segmentLeads fail index (Word e) =
-    either-aligned (segmentInvalid e) _ _ tt (either-aligned (segmentMalformed e) _ _ tt (either-aligned (pastPageTable e index) _ _ tt (omega arith)))
+    either Aligned (segmentInvalid e) tt (either Aligned (segmentMalformed e) tt (either Aligned (pastPageTable e index) tt (omega arith)))
 
 -- the real page of an address of 32 bits
-
-either-small : (b : Bool) (x y : Walk) → Small x → Small y → Small (cond b x y)
-either-small true x y p q = p
-either-small false x y p q = q
 
 small-walkPage : (fail : ℕ → Failure) (e : TableEntry) → Small (walkPage fail e)
 unfolding walkPage
 small-walkPage fail (Unread f) = tt
-small-walkPage fail (Word e) = either-small (pageInvalid e) _ _ tt (either-small (pageMalformed e) _ _ tt (omega arith))
+small-walkPage fail (Word e) = either Small (pageInvalid e) tt (either Small (pageMalformed e) tt (omega arith))
 
 pub small-realPage : (g : Guest) (v : ℕ → Cell) (c : Cpu) (a : ℕ) → a < 2 ^ 32 → Small (realPage g v c a)
 unfolding realPage
 small-realPage g v c a small =
-    either-small (not (datOn c)) (Page (a / pageBytes) false) _ (omega arith)
-    (either-small (not (formatGood c)) _ _ tt (rw walk-in-steps (small-walkPage (walkException a) _)))
+    either Small (not (datOn c)) {x = Page (a / pageBytes) false} (omega arith)
+    (either Small (not (formatGood c)) tt (rw walk-in-steps (small-walkPage (walkException a) _)))
 
 -- what is found behind a guest absolute address
 pub backed-backing : (g : Guest) (d : ℕ) (s k : List ℕ) (a : ℕ) → framesOf s ≤ length k → Backed g k a (backing g (host d s []) a)

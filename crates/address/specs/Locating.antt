@@ -10,7 +10,8 @@ use Rattle.machine.specs.declared.TableEntry.{TableEntry}
 use Rattle.machine.specs.declared.TableEntry.the-variants.{Word, Unread}
 use Rattle.machine.specs.declared.Walk.{Walk}
 use Rattle.machine.specs.declared.Walk.the-variants.{Page, Failed}
-use Rattle.machine.specs.Entry.{pageBytes, blockBytes, extentBytes}
+use Rattle.machine.specs.Sizes.{pageBytes, blockBytes}
+use Rattle.machine.specs.Entry.{extentBytes}
 use Rattle.machine.specs.Psw.{control}
 use Rattle.machine.specs.Failures.{addressing, hostFault, walkException}
 use Rattle.machine.specs.Walk.{pageProtected}

@@ -8,8 +8,7 @@ use lib.ListN.{length, getD, set, take, drop}
 use lib.Seq.{sets}
 use Rattle.machine.specs.declared.Cpu.{Cpu}
 use Rattle.machine.specs.declared.Guest.{Guest}
-use Rattle.machine.specs.Entry.{pageBytes}
-use Rattle.machine.specs.Refusals.{frameBytes}
+use Rattle.machine.specs.Sizes.{frameBytes, pageBytes}
 use Rattle.machine.specs.Psw.{wrap}
 use Rattle.machine.specs.Host.{Host, Located, places, backing, stored, marked}
 use Rattle.machine.specs.Interruptions.{withBytes, bytesOf}

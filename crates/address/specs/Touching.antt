@@ -13,8 +13,8 @@ use Rattle.machine.specs.declared.TableEntry.the-variants.{Word, Unread}
 use Rattle.machine.specs.declared.Walk.{Walk}
 use Rattle.machine.specs.declared.Walk.the-variants.{Page, Failed}
 use Rattle.machine.specs.Words.{wordAt}
-use Rattle.machine.specs.Refusals.{frameBytes}
-use Rattle.machine.specs.Entry.{pageBytes, extentBytes}
+use Rattle.machine.specs.Sizes.{frameBytes, pageBytes}
+use Rattle.machine.specs.Entry.{extentBytes}
 use Rattle.machine.specs.Failures.{protection, hostFault, exceptionOf}
 use Rattle.machine.specs.Host.{Host, hostVirtual, inFrame, backing, view}
 use Rattle.machine.specs.Addresses.{prefixed, keyProtects, Access, reached, denied, access}

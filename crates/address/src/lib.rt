@@ -8,7 +8,7 @@ ghost use lib.ListN.{length};
 ghost use Rattle.machine.specs.declared.Cpu.{Cpu};
 ghost use Rattle.machine.specs.Words.{wordAt};
 ghost use Rattle.machine.specs.Refusals.{framesOf};
-ghost use Rattle.machine.specs.Failures.{isTranslation, walkException};
+ghost use Rattle.machine.specs.Failures.{isTranslation, exceptionOf, walkException};
 ghost use Rattle.machine.specs.Psw.{wrap, control};
 ghost use Rattle.machine.specs.Walk.{pageIndex, frameOf, pageProtected, walkPage};
 ghost use Rattle.machine.specs.Host.{host, hostVirtual, inFrame, view};
@@ -345,6 +345,17 @@ pub fn locate(
     }
     let real = real_page(storage, designation, space, a);
     in_page(storage, keys, designation, space, store, a, real)
+}
+
+// A guest program exception with no address.
+pub fn exception_of(code: u32) -> Failure
+    ensures { λ r. ⌜ r ≡ exceptionOf code ⌝ }
+{
+    Failure {
+        host: false,
+        code,
+        address: 0,
+    }
 }
 
 // The address that an exception of a logical address gives: its page, for 10 and 11 hex.

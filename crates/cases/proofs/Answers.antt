@@ -19,8 +19,8 @@ use Rattle.machine.specs.Refusals.{wrongLength, wrongVersion, wrongStorage, wro
 use Rattle.machine.specs.Operations.{resultOf, machineOf, runOf}
 use Rattle.machine.proofs.Runs.{units-within, runOf-cases}
 use Rattle.machine.proofs.Verdicts.{accepted-budget}
-use Rattle.drevokas.specs.Packing.{packed, packedEnd, packedAnswer}
-use Rattle.cases.specs.CaseFile.{wellFormed, numbersOf, recordOf, keysOf, framesOf, answerOf}
+use Rattle.packing.specs.Packing.{packed, packedEnd, packedAnswer}
+use Rattle.cases.specs.CaseFile.{wellFormed, numbersOf, recordOf, keysOf, storageOf, answerOf}
 use Rattle.cases.specs.Line.{endLetter, lineOf, kindLine, packedLine}
 use Rattle.cases.proofs.Codes.{CodedEnd, coded-run}
 
@@ -82,8 +82,8 @@ small-answer : (file : List ℕ) → Small (answerOf file)
 unfolding answerOf
 small-answer file = by-form (wellFormed file)
   where
-    by-form : (b : Bool) → Small (cond b (runOf (numbersOf file) (recordOf file) (framesOf file) (keysOf file) .answer) (Refused 9))
-    by-form true = small-run (numbersOf file) (recordOf file) (framesOf file) (keysOf file)
+    by-form : (b : Bool) → Small (cond b (runOf (numbersOf file) (recordOf file) (storageOf file) (keysOf file) .answer) (Refused 9))
+    by-form true = small-run (numbersOf file) (recordOf file) (storageOf file) (keysOf file)
     by-form false = omega arith
 
 -- what was packed is found again

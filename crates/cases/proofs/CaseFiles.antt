@@ -12,9 +12,9 @@ use borrow.Author.Tests.{eqb-true, leb-true, lt-leb}
 use Rattle.machine.specs.declared.Answer.the-variants.{Refused}
 use Rattle.machine.specs.declared.Numbers.{Numbers}
 use Rattle.machine.specs.Operations.{runOf}
-use Rattle.machine.specs.Refusals.{frameBytes}
+use Rattle.machine.specs.Sizes.{frameBytes}
 use Rattle.machine.specs.Words.{byteAt}
-use Rattle.cases.specs.CaseFile.{versionAt, recordAt, countAt, keysAt, lengthSaid, countOf, framesAt, caseVersion, mostCaseFrames, wellFormed, numbersOf, recordOf, keysOf, framesOf, caseOf, malformedNumber, answerOf}
+use Rattle.cases.specs.CaseFile.{versionAt, recordAt, countAt, keysAt, lengthSaid, countOf, framesAt, caseVersion, mostCaseFrames, wellFormed, numbersOf, recordOf, keysOf, storageOf, caseOf, malformedNumber, answerOf}
 use Rattle.cases.specs.declared.Case.the-variants.{Malformed, Good}
 
 both : (a b : Bool) → a && b ≡ true → (a ≡ true) × (b ≡ true)
@@ -64,7 +64,7 @@ module _ (file : List ℕ) (good : wellFormed file ≡ true) where
   pub keys-length : length (keysOf file) ≡ countOf file
   keys-length = simp (length-take, length-drop) (omega (arith, good-length, good-least))
 
-  pub frames-length : length (framesOf file) ≡ countOf file * frameBytes
+  pub frames-length : length (storageOf file) ≡ countOf file * frameBytes
   frames-length = simp length-drop (omega (arith, good-length))
 
 -- what copying a part to the start of an array leaves there
@@ -82,7 +82,7 @@ copied-front part array whole k copied same long =
 pub keys-taken : (file : List ℕ) (count : ℕ) → count ≡ countOf file → take (keysAt + count - keysAt) (drop keysAt file) ≡ keysOf file
 keys-taken file count same = ap (λ n. take n (drop keysAt file)) {x = keysAt + count - keysAt} {y = countOf file} (omega (arith, same))
 
-pub frames-taken : (file : List ℕ) (count : ℕ) → count ≡ countOf file → take (length file - (keysAt + count)) (drop (keysAt + count) file) ≡ framesOf file
+pub frames-taken : (file : List ℕ) (count : ℕ) → count ≡ countOf file → take (length file - (keysAt + count)) (drop (keysAt + count) file) ≡ storageOf file
 frames-taken file count same =
     take-all (length file - (keysAt + count)) (drop (keysAt + count) file) (simp length-drop (omega arith)) ∙ ap (λ n. drop (keysAt + n) file) same
 
@@ -100,7 +100,7 @@ few file n count found = let good = good-case file n count found in omega (arith
 
 -- the run of its parts gives its answer
 pub run-of-parts : (file : List ℕ) (n : Numbers) (count : ℕ) → caseOf file ≡ Good n count → {r frames keys : List ℕ}
-    → r ≡ recordOf file → frames ≡ framesOf file → keys ≡ keysOf file → runOf n r frames keys .answer ≡ answerOf file
+    → r ≡ recordOf file → frames ≡ storageOf file → keys ≡ keysOf file → runOf n r frames keys .answer ≡ answerOf file
 unfolding answerOf
 run-of-parts file n count found {r} {frames} {keys} whole rest marks =
     let good = good-case file n count found in
@@ -111,6 +111,6 @@ unfolding caseOf answerOf
 malformed-answer file found = by-form (wellFormed file) refl
   where
     by-form : (b : Bool) → wellFormed file ≡ b
-        → cond (wellFormed file) (runOf (numbersOf file) (recordOf file) (framesOf file) (keysOf file) .answer) (Refused malformedNumber) ≡ Refused malformedNumber
+        → cond (wellFormed file) (runOf (numbersOf file) (recordOf file) (storageOf file) (keysOf file) .answer) (Refused malformedNumber) ≡ Refused malformedNumber
     by-form true e = let never : Good (numbersOf file) (countOf file) ≡ Malformed = rw e at found in let z : _≡_ {A = ℕ} 0 1 = cc in absurd (omega arith)
     by-form false e = rw e

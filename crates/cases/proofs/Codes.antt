@@ -1,11 +1,10 @@
 -- The program code of a host fault that ends a run is a byte.
 -- Assumes nothing.
-use Prim.Native.Nat.{ℕ, zero, suc, _+_, _%_, _<_}
+use Prim.Native.Nat.{ℕ, zero, suc, _%_}
 use native.Mathlib.Omega.{arith}
-use mathlib.Core.Bool.{Bool, true, false, cond, not, _&&_}
+use mathlib.Core.Bool.{Bool, true, false, _&&_}
 use mathlib.Core.List.{List, [], _∷_}
-use lib.Dec.{eqb, leb, ltb}
-use lib.ListN.{length}
+use lib.Dec.{eqb, ltb}
 use Rattle.machine.specs.declared.Class.{Class}
 use Rattle.machine.specs.declared.Class.the-variants.{Lr, Ar, Sr, Bcr, Svc, La, Bc, St, L, Lpsw, Stctl, Lctl, Stck, Spt, Stpt, Mandatory, Unassigned}
 use Rattle.machine.specs.declared.Cpu.{Cpu}
@@ -16,43 +15,17 @@ use Rattle.machine.specs.declared.Guest.{Guest}
 use Rattle.machine.specs.declared.Numbers.{Numbers}
 use Rattle.machine.specs.declared.Opcode.{Opcode}
 use Rattle.machine.specs.declared.Reason.{Reason}
-use Rattle.machine.specs.declared.TableEntry.{TableEntry}
-use Rattle.machine.specs.declared.TableEntry.the-variants.{Word, Unread}
-use Rattle.machine.specs.declared.Walk.{Walk}
-use Rattle.machine.specs.declared.Walk.the-variants.{Page, Failed}
-use Rattle.machine.specs.Refusals.{framesOf}
-use Rattle.machine.specs.Entry.{extentBytes}
-use Rattle.machine.specs.Psw.{problemState, overflowEnabled, datOn, instructionAddress}
-use Rattle.machine.specs.Failures.{segmentTranslation, pageTranslation, translationSpecification, operation, privilegedOperation, specification, fixedPointOverflow, walkException, exceptionOf}
-use Rattle.machine.specs.Walk.{segmentIndex, pastSegmentTable, segmentInvalid, segmentMalformed, pastPageTable, pageInvalid, pageMalformed, walkPage, walkSegment, walk}
-use Rattle.machine.specs.Host.{Host, Cell, absent, present, Located, hostEntry, inStorage, hostPage, backing, cellOf, view}
-use Rattle.machine.specs.Addresses.{prefixed, entryOf, guestEntry, formatGood, realPage, lowProtected, Access, reached, denied, settle, realAccess, inPage, access, Accesses, all, stopped, andThen, accesses, whenReached}
+use Rattle.machine.specs.Psw.{problemState, overflowEnabled, instructionAddress}
+use Rattle.machine.specs.Failures.{operation, privilegedOperation, specification, fixedPointOverflow, exceptionOf}
+use Rattle.machine.specs.Host.{Cell, Located, view}
+use Rattle.machine.specs.Addresses.{Access, reached, denied, Accesses, all, stopped, andThen, accesses, whenReached}
+use Rattle.machine.specs.Opcodes.{sameClass}
 use Rattle.machine.specs.Outcomes.{Effects, Outcome, completed, intercepted, faulted, Progress}
 use Rattle.machine.specs.Interruptions.{Areas, interrupt, afterException, exception}
 use Rattle.machine.specs.Execute.{operandAddress, finish, fetching, storing, summed, branch, execute, loadRegister, add, subtract, branchRegister, branchIndexed, supervisorCall, loadAddress, store, load, loadPsw, storeControl, loadControl, storeClock, setTimer, storeTimer, interceptInstruction}
 use Rattle.machine.specs.Units.{intercepts, misaligned, decoded, halfword, reading, fetchThird, fetchSecond, started, instruction, unit}
 use Rattle.machine.specs.Run.{Machine, counted, onward, unitFrom, afterUnit, stepOf, step, run}
-
--- a failure, where there is one, has a code of a byte
-
-abbrev Coded : Failure → Type 0
-Coded f = f .code < 256
-
-abbrev CodedEntry : TableEntry → Type 0
-CodedEntry (Word x) = Unit {0}
-CodedEntry (Unread f) = Coded f
-
-abbrev CodedWalk : Walk → Type 0
-CodedWalk (Page frame protected) = Unit {0}
-CodedWalk (Failed f) = Coded f
-
-abbrev CodedCell : Cell → Type 0
-CodedCell (present byte key protected) = Unit {0}
-CodedCell (absent f) = Coded f
-
-abbrev CodedAccess : Access → Type 0
-CodedAccess (reached l) = Unit {0}
-CodedAccess (denied f) = Coded f
+use Rattle.address.proofs.Codes.{Coded, CodedCell, CodedAccess, either, coded-view, coded-real-access, coded-access}
 
 abbrev CodedAccesses : Accesses → Type 0
 CodedAccesses (all ls) = Unit {0}
@@ -63,90 +36,7 @@ data CodedOutcome : Outcome → Type 0 where
   exits : {r : Reason} {c : Cpu} → CodedOutcome (intercepted r c)
   faults : {f : Failure} → Coded f → CodedOutcome (faulted f)
 
--- what holds of both arms of a test holds of the test
-either : {A : Type 0} (P : A → Type 0) (b : Bool) {x y : A} → P x → P y → P (cond b x y)
-either P true p q = p
-either P false p q = q
-
--- the walk
-
-module _ (read : ℕ → TableEntry) (fail : ℕ → Failure) (reads : (at : ℕ) → CodedEntry (read at)) (fails : (code : ℕ) → code < 256 → Coded (fail code)) where
-  coded-page : (e : TableEntry) → CodedEntry e → CodedWalk (walkPage fail e)
-  unfolding walkPage
-  coded-page (Unread f) small = small
-  coded-page (Word e) small =
-      either CodedWalk (pageInvalid e) (fails pageTranslation (omega arith)) (either CodedWalk (pageMalformed e) (fails translationSpecification (omega arith)) tt)
-
-  coded-segment : (index : ℕ) (e : TableEntry) → CodedEntry e → CodedWalk (walkSegment read fail index e)
-  unfolding walkSegment
-  coded-segment index (Unread f) small = small
-  coded-segment index (Word e) small =
-      either CodedWalk (segmentInvalid e) (fails segmentTranslation (omega arith))
-      (either CodedWalk (segmentMalformed e) (fails translationSpecification (omega arith))
-      (either CodedWalk (pastPageTable e index) (fails pageTranslation (omega arith)) (coded-page _ (reads _))))
-
-  coded-walk : (d a : ℕ) → CodedWalk (walk read fail d a)
-  unfolding walk
-  coded-walk d a = either CodedWalk (pastSegmentTable d (segmentIndex a)) (fails segmentTranslation (omega arith)) (coded-segment _ _ (reads _))
-
--- the host behind the guest
-
-coded-host-entry : (s : List ℕ) (v at : ℕ) → CodedEntry (hostEntry s v at)
-unfolding hostEntry
-coded-host-entry s v at = either CodedEntry (leb (at + 4) (length s)) tt (omega arith)
-
-coded-in-storage : (s : List ℕ) (v : ℕ) (w : Walk) → CodedWalk w → CodedWalk (inStorage s v w)
-unfolding inStorage
-coded-in-storage s v (Failed f) small = small
-coded-in-storage s v (Page frame protected) small = either CodedWalk (ltb frame (framesOf s)) tt (omega arith)
-
-coded-cell : (h : Host) (a : ℕ) (w : Walk) → CodedWalk w → CodedCell (cellOf h a w)
-unfolding cellOf
-coded-cell h a (Failed f) small = small
-coded-cell h a (Page frame protected) small = tt
-
-coded-view : (g : Guest) (h : Host) (a : ℕ) → CodedCell (view g h a)
-unfolding view backing hostPage
-coded-view g h a =
-    coded-cell h a _
-    (either CodedWalk (ltb a (extentBytes g)) (coded-in-storage _ _ _ (coded-walk _ _ (coded-host-entry _ _) (λ code small. small) _ _)) (omega arith))
-
--- the guest
-
-module _ (g : Guest) (v : ℕ → Cell) (cells : (a : ℕ) → CodedCell (v a)) where
-  coded-guest-entry : (real : ℕ) → CodedEntry (guestEntry g v real)
-  unfolding guestEntry entryOf
-  coded-guest-entry real = of-cell (v (prefixed g real)) (cells (prefixed g real))
-    where
-      of-cell : (e : Cell) → CodedCell e → CodedEntry (entryOf v (prefixed g real) e)
-      of-cell (absent f) small = small
-      of-cell (present byte key protected) small = tt
-
-  coded-settle : (store : Bool) (protects : ℕ → Bool) (a : ℕ) (e : Cell) → CodedCell e → CodedAccess (settle g store protects a e)
-  unfolding settle
-  coded-settle store protects a (absent f) small = small
-  coded-settle store protects a (present byte key protected) small =
-      either CodedAccess (protects key) (omega arith) (either CodedAccess (store && protected) (omega arith) tt)
-
-  coded-real-access : (store : Bool) (real : ℕ) → CodedAccess (realAccess g v store real)
-  unfolding realAccess
-  coded-real-access store real = coded-settle store _ _ _ (cells _)
-
-  module _ (c : Cpu) where
-    coded-real-page : (a : ℕ) → CodedWalk (realPage g v c a)
-    unfolding realPage walkException
-    coded-real-page a =
-        either CodedWalk (not (datOn c)) tt
-        (either CodedWalk (not (formatGood c)) (omega arith) (coded-walk _ _ coded-guest-entry (λ code small. small) _ _))
-
-    coded-in-page : (store : Bool) (a : ℕ) (w : Walk) → CodedWalk w → CodedAccess (inPage g v c store a w)
-    unfolding inPage
-    coded-in-page store a (Failed f) small = small
-    coded-in-page store a (Page frame protected) small = coded-settle store _ _ _ (cells _)
-
-    coded-access : (store : Bool) (a : ℕ) → CodedAccess (access g v c store a)
-    unfolding access
-    coded-access store a = either CodedAccess (store && lowProtected c a) (omega arith) (coded-in-page store a _ (coded-real-page a))
+-- the accesses to an operand
 
 coded-and-then : (a : Access) (later : Accesses) → CodedAccess a → CodedAccesses later → CodedAccesses (andThen a later)
 unfolding andThen
@@ -218,9 +108,11 @@ module _ (x : Progress) (cells : (a : ℕ) → CodedCell (x .view a)) where
   coded-decoded : (o : Opcode) → CodedOutcome (decoded x o)
   unfolding decoded interceptInstruction
   coded-decoded o =
-      either CodedOutcome (o .privileged && problemState (x .cpu)) (coded-exception _ (exceptionOf privilegedOperation) (omega arith))
+      either CodedOutcome (sameClass (o .class) Unassigned) (coded-exception _ (exceptionOf operation) (omega arith))
+      (either CodedOutcome (o .privileged && problemState (x .cpu)) (coded-exception _ (exceptionOf privilegedOperation) (omega arith))
       (either CodedOutcome (intercepts (o .class) x) exits
-      (either CodedOutcome (misaligned (o .class) (operandAddress x)) (coded-exception _ (exceptionOf specification) (omega arith)) (coded-execute (o .class))))
+      (either CodedOutcome (misaligned (o .alignment) (operandAddress x)) (coded-exception _ (exceptionOf specification) (omega arith))
+      (coded-execute (o .class)))))
 
   coded-halfword : (n : ℕ) → CodedAccesses (halfword x n)
   unfolding halfword

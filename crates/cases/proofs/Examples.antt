@@ -10,11 +10,11 @@ use Rattle.machine.specs.Refusals.{runVerdict}
 use Rattle.machine.specs.Operations.{runOf}
 use Rattle.machine.specs.Theorems.{withBudget}
 use Rattle.machine.proofs.Accepted.{budget-and-stop-differ}
-use Rattle.cases.specs.CaseFile.{numbersOf, recordOf, keysOf, framesOf, answerOf}
+use Rattle.cases.specs.CaseFile.{numbersOf, recordOf, keysOf, storageOf, answerOf}
 use Rattle.cases.specs.Line.{decimalIn, endLetter, lineOf}
 use Rattle.cases.specs.Examples.{GoodFile, WorkedExamples}
 
-answer-of-run : (file : List ℕ) → GoodFile file → answerOf file ≡ runOf (numbersOf file) (recordOf file) (framesOf file) (keysOf file) .answer
+answer-of-run : (file : List ℕ) → GoodFile file → answerOf file ≡ runOf (numbersOf file) (recordOf file) (storageOf file) (keysOf file) .answer
 unfolding answerOf
 answer-of-run file good = rw (good .formed)
 
@@ -30,8 +30,8 @@ worked-examples = record {
       let zero-budget = no-budget (numbersOf file) none in
       ap lineOf
       (answer-of-run file good
-      ∙ ap (λ n. runOf n (recordOf file) (framesOf file) (keysOf file) .answer) zero-budget
+      ∙ ap (λ n. runOf n (recordOf file) (storageOf file) (keysOf file) .answer) zero-budget
       ∙ budget-and-stop-differ .noBudget (numbersOf file) _ _ _
-      (subst (λ n. runVerdict n (recordOf file) (framesOf file) (keysOf file) ≡ Accepted) zero-budget (good .accepted))
+      (subst (λ n. runVerdict n (recordOf file) (storageOf file) (keysOf file) ≡ Accepted) zero-budget (good .accepted))
       (good .entered));
 }

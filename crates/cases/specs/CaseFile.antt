@@ -9,7 +9,7 @@ use Rattle.machine.specs.declared.Answer.the-variants.{Refused}
 use Rattle.machine.specs.declared.Numbers.{Numbers}
 use Rattle.machine.specs.Operations.{runOf}
 use Rattle.machine.specs.Record.{recordLength}
-use Rattle.machine.specs.Refusals.{frameBytes}
+use Rattle.machine.specs.Sizes.{frameBytes}
 use Rattle.machine.specs.Words.{byteAt, halfAt, wordAt, doubleAt}
 use Rattle.cases.specs.declared.Case.{Case}
 use Rattle.cases.specs.declared.Case.the-variants.{Malformed, Good}
@@ -83,8 +83,8 @@ recordOf file = take recordLength (drop recordAt file)
 abbrev pub keysOf : List ℕ → List ℕ
 keysOf file = take (countOf file) (drop keysAt file)
 
-abbrev pub framesOf : List ℕ → List ℕ
-framesOf file = drop (framesAt file) file
+abbrev pub storageOf : List ℕ → List ℕ
+storageOf file = drop (framesAt file) file
 
 -- what a parser finds
 unfoldable pub caseOf : List ℕ → Case
@@ -96,4 +96,4 @@ malformedNumber = 9
 
 -- the answer that a case file asks for
 unfoldable pub answerOf : List ℕ → Answer
-answerOf file = cond (wellFormed file) (runOf (numbersOf file) (recordOf file) (framesOf file) (keysOf file) .answer) (Refused malformedNumber)
+answerOf file = cond (wellFormed file) (runOf (numbersOf file) (recordOf file) (storageOf file) (keysOf file) .answer) (Refused malformedNumber)

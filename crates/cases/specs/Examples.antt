@@ -8,13 +8,13 @@ use Rattle.machine.specs.Record.{guestOf}
 use Rattle.machine.specs.Refusals.{runVerdict}
 use Rattle.machine.specs.Entry.{entryGood}
 use Rattle.machine.specs.Units.{stopRequested}
-use Rattle.cases.specs.CaseFile.{wellFormed, numbersOf, recordOf, keysOf, framesOf, answerOf}
+use Rattle.cases.specs.CaseFile.{wellFormed, numbersOf, recordOf, keysOf, storageOf, answerOf}
 use Rattle.cases.specs.Line.{lineOf}
 
 -- a file that no refusal names, with a good entry
 pub record GoodFile (file : List ℕ) : Type 0 where
   pub formed : wellFormed file ≡ true
-  pub accepted : runVerdict (numbersOf file) (recordOf file) (framesOf file) (keysOf file) ≡ Accepted
+  pub accepted : runVerdict (numbersOf file) (recordOf file) (storageOf file) (keysOf file) ≡ Accepted
   pub entered : entryGood (guestOf (recordOf file)) ≡ true
 
 -- with V bit 5 one and a budget it prints `I 40 0`; with budget 0, `B 0 0`

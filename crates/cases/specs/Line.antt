@@ -8,7 +8,7 @@ use Rattle.machine.specs.declared.Answer.the-variants.{Refused, Ended}
 use Rattle.machine.specs.declared.End.{End}
 use Rattle.machine.specs.declared.End.the-variants.{Intercepted, HostFault, BudgetUsed}
 use Rattle.machine.specs.Answers.{endNumber}
-use Rattle.drevokas.specs.Packing.{interceptedKind, hostFaultKind, budgetKind}
+use Rattle.packing.specs.Packing.{interceptedKind, hostFaultKind, budgetKind}
 
 abbrev pub newline : ℕ
 newline = 10

@@ -1,14 +1,13 @@
-// Case files: the parser, the run of a case and the line that it prints, for the program `case`. A file is any slice. Each contract
-// equates with the definitions of specs/CaseFile and specs/Line; the run is drevokas_run, on copies of the file's parts.
+// Case files: the parser, copies of a file's parts, and the line that a packed answer of run prints. A file is any slice. Each contract
+// equates with the definitions of specs/CaseFile and specs/Line.
 ghost use mathlib.Core.Path.{_≡_};
 ghost use mathlib.Core.Bool.{true};
 ghost use Prim.Native.Nat.{_+_, _*_, _≤_, _<_};
 ghost use mathlib.Core.List.{_++_, _∷_, []};
 ghost use lib.ListN.{length, take};
 ghost use Rattle.io.specs.Counts.{Counts};
-ghost use Rattle.drevokas.specs.Packing.{packedAnswer};
-ghost use Rattle.cases.specs.CaseFile.{countOf, numbersOf, recordOf, keysOf, framesOf, wellFormed, caseOf, answerOf};
-ghost use Rattle.cases.specs.Line.{decimal, lineBytes, refusalLine, endLine, lineOf, packedLine};
+ghost use Rattle.cases.specs.CaseFile.{countOf, numbersOf, recordOf, keysOf, storageOf, wellFormed, caseOf};
+ghost use Rattle.cases.specs.Line.{decimal, lineBytes, refusalLine, endLine, packedLine};
 use machine::Numbers;
 
 const VERSION: usize = 4;
@@ -45,9 +44,6 @@ const INTERCEPTED: u64 = 1;
 const HOST_FAULT: u64 = 2;
 
 const BUDGET_USED: u64 = 3;
-
-// Refusal 9, packed.
-const MALFORMED: u64 = 2533274790395904;
 
 // What a parser finds: the numbers and the frame count of a well-formed file.
 pub enum Case {
@@ -106,7 +102,7 @@ pub fn parse(file: &[u8]) -> Case
 }
 
 // The record of a case file.
-fn record_of(file: &[u8]) -> [u8; RECORD_BYTES]
+pub fn record_of(file: &[u8]) -> [u8; RECORD_BYTES]
     requires { ⌜ wellFormed (now file) ≡ true ⌝ }
     ensures { λ r. ⌜ r ≡ recordOf (now (file .entry)) ⌝ }
 {
@@ -116,7 +112,7 @@ fn record_of(file: &[u8]) -> [u8; RECORD_BYTES]
 }
 
 // The keys of a case file, at the start.
-fn keys_of(file: &[u8], count: usize) -> [u8; MOST_FRAMES]
+pub fn keys_of(file: &[u8], count: usize) -> [u8; MOST_FRAMES]
     requires { ⌜ wellFormed (now file) ≡ true ⌝ }
     requires { ⌜ count ≡ countOf (now file) ⌝ }
     ensures { λ r. ⌜ (length r ≡ 8) × (take count r ≡ keysOf (now (file .entry))) ⌝ }
@@ -135,55 +131,15 @@ fn room() -> [u8; MOST_BYTES]
 }
 
 // The frames of a case file, at the start.
-fn frames_of(file: &[u8], count: usize) -> [u8; MOST_BYTES]
+pub fn storage_of(file: &[u8], count: usize) -> [u8; MOST_BYTES]
     requires { ⌜ wellFormed (now file) ≡ true ⌝ }
     requires { ⌜ count ≡ countOf (now file) ⌝ }
-    ensures { λ r. ⌜ (length r ≡ 32768) × (take (count * 4096) r ≡ framesOf (now (file .entry))) ⌝ }
+    ensures { λ r. ⌜ (length r ≡ 32768) × (take (count * 4096) r ≡ storageOf (now (file .entry))) ⌝ }
 {
     let mut part = room();
     let at = KEYS + count;
     bytes::copy(&file[at..], &mut part);
     part
-}
-
-// The run of a well-formed case file.
-fn run_parts(file: &[u8], n: Numbers, count: usize) -> u64
-    requires { ⌜ caseOf (now file) ≡ Case.Good n count ⌝ }
-    ensures { λ r. ⌜ r ≡ packedAnswer (answerOf (now (file .entry))) ⌝ }
-{
-    let mut record = record_of(file);
-    let mut keys = keys_of(file, count);
-    let mut frames = frames_of(file, count);
-    let used = count * FRAME;
-    let mut place = 0;
-    drevokas::drevokas_run(
-        &mut record,
-        &mut frames[..used],
-        &mut keys[..count],
-        n.designation,
-        n.clock,
-        n.time,
-        n.budget,
-        &mut place,
-    )
-}
-
-// The answer, once the file is parsed.
-fn answer_as(file: &[u8], c: Case) -> u64
-    requires { ⌜ c ≡ caseOf (now file) ⌝ }
-    ensures { λ r. ⌜ r ≡ packedAnswer (answerOf (now (file .entry))) ⌝ }
-{
-    match c {
-        Case::Malformed => MALFORMED,
-        Case::Good { numbers, count } => run_parts(file, numbers, count),
-    }
-}
-
-// Runs a case file: the packed answer of run, or refusal 9.
-pub fn run_case(file: &[u8]) -> u64
-    ensures { λ r. ⌜ r ≡ packedAnswer (answerOf (now (file .entry))) ⌝ }
-{
-    answer_as(file, parse(file))
 }
 
 // One byte of a line. Like those below, it answers where the line goes on.
@@ -257,13 +213,4 @@ pub fn put_line(line: &mut [u8], answer: u64) -> usize
         return put_end(line, b'B', number, units);
     }
     put_refusal(line, number)
-}
-
-// Runs a case file, puts the line that it prints at the start of `line`, and answers how long it is.
-pub fn case_line(file: &[u8], line: &mut [u8]) -> usize
-    requires { ⌜ lineBytes ≤ length (now line) ⌝ }
-    ensures { λ r. ⌜ Counts r (now (line .exit)) ⌝ }
-    ensures { λ r. ⌜ take r (now (line .exit)) ≡ lineOf (answerOf (now (file .entry))) ⌝ }
-{
-    put_line(line, run_case(file))
 }

@@ -1,11 +1,9 @@
 -- The interception controls of LCTL, register by register.
 -- Assumes nothing.
-use Prim.Native.Nat.{ℕ, zero, suc, _+_, _-_, _%_, _≤_, _<_}
+use Prim.Native.Nat.{ℕ, zero, suc, _+_, _-_, _%_, _<_}
 use native.Mathlib.Omega.{arith}
 use mathlib.Core.Path.{_≡_, sym, ap}
 use mathlib.Core.Bool.{_||_}
-use mathlib.Core.List.{[], _∷_}
-use types.Run.{OneOf}
 use Rattle.machine.specs.declared.Guest.{Guest}
 use Rattle.machine.specs.Words.{bit}
 use Rattle.machine.specs.Units.{interceptsLctl}
@@ -13,15 +11,6 @@ use Rattle.machine.specs.Units.{interceptsLctl}
 -- the bit of an arm's key is the bit of the register
 pub bit-of-key : (lctl k i : ℕ) → i ≡ k → bit 16 k lctl ≡ bit 16 i lctl
 bit-of-key lctl k i same = ap (λ n. bit 16 n lctl) (sym same)
-
--- what is known behind a match's arms for the keys below n
-abbrev NoneBelow : ℕ → ℕ → Type 0
-NoneBelow zero i = Unit {0}
-NoneBelow (suc n) i = NoneBelow n i × (OneOf (n ∷ []) i → ⊥)
-
-pub past-the-keys : (n i : ℕ) → NoneBelow n i → n ≤ i
-past-the-keys zero i h = omega arith
-past-the-keys (suc n) i (h, other) = let below : n ≤ i = past-the-keys n i h in omega arith
 
 -- the controls of n registers are that of the first, and then the others'
 pub lctl-first : (g : Guest) (i n : ℕ) → 0 < n → interceptsLctl g i n ≡ (bit 16 i (g .lctl) || interceptsLctl g ((i + 1) % 16) (n - 1))

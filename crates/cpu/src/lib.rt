@@ -13,7 +13,6 @@ ghost use Rattle.machine.specs.Outcomes.{Progress};
 ghost use Rattle.machine.specs.Execute.{addressPart, operandAddress, indexedAddress, selected, rangeCount};
 ghost use Rattle.machine.specs.Units.{interceptsSvc, interceptsLctl, misaligned, unit};
 ghost use Rattle.cpu.specs.Before.{comparatorInterrupts, timerInterrupts, externalRequest, ioRequest, unitAfter};
-use machine::Class;
 use machine::Guest;
 use machine::Psw;
 use machine::Reason;
@@ -253,7 +252,7 @@ pub fn indexed_address(psw: Psw, general: Registers, text: Text) -> u32
 
 // The mask's bit for the condition code is one.
 pub fn selected(mask: u32, code: u32) -> bool
-    requires { ⌜ (mask < 16) × (code < 4) ⌝ }
+    requires { ⌜ code < 4 ⌝ }
     ensures { λ r. ⌜ r ≡ selected mask code ⌝ }
 {
     if code == 0 {
@@ -321,7 +320,7 @@ fn lctl_bit(lctl: u16, i: u32) -> bool
 
 // The interception control of one of n control registers from i on is one.
 pub fn intercepts_lctl(guest: Guest, i: u32, n: u32) -> bool
-    requires { ⌜ (i < 16) × (n ≤ 16) ⌝ }
+    requires { ⌜ i < 16 ⌝ }
     ensures { λ r. ⌜ r ≡ interceptsLctl guest i n ⌝ }
 {
     let mut at = i;
@@ -336,29 +335,12 @@ pub fn intercepts_lctl(guest: Guest, i: u32, n: u32) -> bool
     false
 }
 
-// The operand's address is not aligned as its class asks.
-pub fn misaligned(class: Class, a: u32) -> bool
-    ensures { λ r. ⌜ r ≡ misaligned class a ⌝ }
+// The operand's address is not a multiple of its alignment.
+pub fn misaligned(alignment: u8, a: u32) -> bool
+    requires { ⌜ 0 < alignment ⌝ }
+    ensures { λ r. ⌜ r ≡ misaligned alignment a ⌝ }
 {
-    match class {
-        Class::Lr => false,
-        Class::Ar => false,
-        Class::Sr => false,
-        Class::Bcr => false,
-        Class::Svc => false,
-        Class::La => false,
-        Class::Bc => false,
-        Class::St => false,
-        Class::L => false,
-        Class::Lpsw => a % 8 != 0,
-        Class::Stctl => a % 4 != 0,
-        Class::Lctl => a % 4 != 0,
-        Class::Stck => false,
-        Class::Spt => a % 8 != 0,
-        Class::Stpt => a % 8 != 0,
-        Class::Mandatory => false,
-        Class::Unassigned => false,
-    }
+    a % alignment as u32 != 0
 }
 
 // Step 4: the clock comparator interrupts.

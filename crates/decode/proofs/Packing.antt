@@ -1,19 +1,19 @@
--- A row is had back from its packing, field by field.
+-- A row is had back from its packing, field by field; what lengths and alignments the table gives.
 -- Assumes nothing.
-use Prim.Native.Nat.{ℕ, zero, suc, _*_, _/_, _%_, _<_}
+use Prim.Native.Nat.{ℕ, zero, suc, _*_, _/_, _%_, _≤_, _<_}
 use mathlib.Core.Path.{_≡_, refl, ap, sym, _∙_}
-use mathlib.Core.Bool.{Bool, true, false, cond}
+use mathlib.Core.Bool.{Bool, true, false, cond, _&&_}
 use mathlib.Core.List.{List, [], _∷_, map}
 use native.Mathlib.Nat.{not-suc-le-zero, le-of-suc-le-suc}
 use native.Mathlib.Omega.{arith}
-use borrow.Author.Tests.{lt-ltb, le-ltb, eqb-true}
+use borrow.Author.Tests.{ltb-true, lt-ltb, le-ltb, eqb-true}
 use lib.Dec.{eqb, ltb, lit<}
 use lib.ListN.{length, getD}
 use Rattle.machine.specs.declared.Class.{Class}
 use Rattle.machine.specs.declared.Class.the-variants.{Lr, Ar, Sr, Bcr, Svc, La, Bc, St, L, Lpsw, Stctl, Lctl, Stck, Spt, Stpt, Mandatory, Unassigned}
 use Rattle.machine.specs.Words.{bits}
-use Rattle.machine.specs.Opcodes.{Row, lengthOf, numberOf}
-use Rattle.decode.specs.Packing.{codeOf, lengthOfNumber, packed}
+use Rattle.machine.specs.Opcodes.{codeOf, Row, row, lengthOf, numberOf, opcodes, find, opcodeOf}
+use Rattle.decode.specs.Packing.{lengthOfNumber, packed}
 
 -- a place of a packed list has the packing of the row there
 pub packed-at : (rows : List Row) (none : Row) (k : ℕ) → k < length rows → getD (map packed rows) k 0 ≡ packed (getD rows k none)
@@ -21,12 +21,12 @@ packed-at [] none k h = absurd (not-suc-le-zero h)
 packed-at (r ∷ rows) none zero h = refl
 packed-at (r ∷ rows) none (suc k) h = packed-at rows none k (le-of-suc-le-suc h)
 
-classes : List Class
+-- the classes in their order
+abbrev pub classes : List Class
 classes = Lr ∷ Ar ∷ Sr ∷ Bcr ∷ Svc ∷ La ∷ Bc ∷ St ∷ L ∷ Lpsw ∷ Stctl ∷ Lctl ∷ Stck ∷ Spt ∷ Stpt ∷ Mandatory ∷ Unassigned ∷ []
 
 -- a class stands at its code
 placed : (k : Class) → (codeOf k < 17) × (getD classes (codeOf k) Unassigned ≡ k)
-unfolding classes
 placed Lr = (lit< tt, refl)
 placed Ar = (lit< tt, refl)
 placed Sr = (lit< tt, refl)
@@ -61,25 +61,78 @@ flag-small : (b : Bool) → cond b 1 0 < 2
 flag-small true = lit< tt
 flag-small false = lit< tt
 
-module _ (r : Row) where
+-- an alignment is a digit, and not zero
+aligned : Row → Bool
+aligned r = ltb 0 (r .alignment) && ltb (r .alignment) 16
+
+all-aligned : List Row → Bool
+all-aligned [] = true
+all-aligned (r ∷ rows) = aligned r && all-aligned rows
+
+both : (a b : Bool) → a && b ≡ true → (a ≡ true) × (b ≡ true)
+both true b e = (refl, e)
+both false b e = let z : _≡_ {A = ℕ} 0 1 = cc in absurd (omega arith)
+
+aligned-within : (r : Row) → aligned r ≡ true → (0 < r .alignment) × (r .alignment < 16)
+unfolding aligned
+aligned-within r e = let (some, digit) = both _ _ e in (ltb-true _ _ some, ltb-true _ _ digit)
+
+-- in a table whose rows are all aligned so, the row at a place is, and the row that is found
+aligned-at : (rows : List Row) (none : Row) → all-aligned rows ≡ true → aligned none ≡ true → (k : ℕ) → aligned (getD rows k none) ≡ true
+unfolding all-aligned
+aligned-at [] none e last k = last
+aligned-at (r ∷ rows) none e last zero = both (aligned r) _ e .0
+aligned-at (r ∷ rows) none e last (suc k) = aligned-at rows none (both (aligned r) _ e .1) last k
+
+aligned-found : (n : ℕ) (rows : List Row) → all-aligned rows ≡ true → aligned (find n rows) ≡ true
+unfolding all-aligned aligned find
+aligned-found n [] e = refl
+aligned-found n (r ∷ rows) e = either (eqb n (r .number)) (both (aligned r) _ e .0) (aligned-found n rows (both (aligned r) _ e .1))
+  where
+    either : (b : Bool) → aligned r ≡ true → aligned (find n rows) ≡ true → aligned (cond b r (find n rows)) ≡ true
+    either true here later = here
+    either false here later = later
+
+-- the row at a place of the table, and one that is unassigned past its end
+abbrev pub rowAt : ℕ → Row
+rowAt k = getD opcodes k (row 0 false 1 Unassigned)
+
+pub row-digit : (k : ℕ) → (rowAt k) .alignment < 16
+unfolding all-aligned aligned
+row-digit k = aligned-within (rowAt k) (aligned-at opcodes _ refl refl k) .1
+
+-- what the table says of a first halfword: a length that is a length code, and an alignment that divides
+pub length-at-most : (first : ℕ) → (opcodeOf first) .length ≤ 3
+unfolding opcodeOf
+length-at-most first = le-of-suc-le-suc (length-small first)
+
+pub alignment-some : (first : ℕ) → 0 < (opcodeOf first) .alignment
+unfolding opcodeOf all-aligned aligned
+alignment-some first = aligned-within (find (numberOf first) opcodes) (aligned-found (numberOf first) opcodes refl) .0
+
+module _ (r : Row) (digit : r .alignment < 16) where
   -- each field of the packing is small enough for its digits
   small : (lengthOfNumber (r .number) < 4) × (cond (r .privileged) 1 0 < 2) × (codeOf (r .class) < 17)
   unfolding lengthOfNumber
   small = (length-small _, flag-small (r .privileged), placed (r .class) .0)
 
-  pub packed-number : packed r / 65536 ≡ r .number
+  pub packed-number : packed r / 1048576 ≡ r .number
   unfolding packed
   packed-number = omega (arith, small)
 
-  pub packed-length : packed r / 4096 % 16 ≡ lengthOfNumber (r .number)
+  pub packed-length : packed r / 65536 % 16 ≡ lengthOfNumber (r .number)
   unfolding packed
   packed-length = omega (arith, small)
 
-  packed-flag : packed r / 256 % 16 ≡ cond (r .privileged) 1 0
+  packed-flag : packed r / 4096 % 16 ≡ cond (r .privileged) 1 0
   unfolding packed
   packed-flag = omega (arith, small)
 
-  pub packed-privilege : eqb (packed r / 256 % 16) 1 ≡ r .privileged
+  pub packed-alignment : packed r / 256 % 16 ≡ r .alignment
+  unfolding packed
+  packed-alignment = omega (arith, small)
+
+  pub packed-privilege : eqb (packed r / 4096 % 16) 1 ≡ r .privileged
   packed-privilege = rw packed-flag (raised (r .privileged))
     where
       raised : (b : Bool) → eqb (cond b 1 0) 1 ≡ b

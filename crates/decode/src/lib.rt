@@ -2,49 +2,50 @@
 // nothing else.
 ghost use mathlib.Core.Path.{_≡_};
 ghost use mathlib.Core.List.{map};
-ghost use Prim.Native.Nat.{_≤_, _<_};
-ghost use Rattle.machine.specs.Opcodes.{lengthOf, numberOf, opcodeOf, opcodes};
-ghost use Rattle.decode.specs.Packing.{codeOf, packed};
+ghost use Prim.Native.Nat.{_<_};
+ghost use Rattle.machine.specs.Opcodes.{lengthOf, numberOf, codeOf, opcodeOf, opcodes};
+ghost use Rattle.decode.specs.Packing.{packed};
 use machine::Class;
 use machine::Opcode;
 
 // The rows of the definition, in its order. In hexadecimal digits: four for the opcode's number, one for the length in
-// halfwords, one that is 1 where the opcode is privileged, and two for the class, by its place among the classes.
-const ROWS: [u32; 30] = [
-    0x0018_1000,
-    0x001a_1001,
-    0x001b_1002,
-    0x0007_1003,
-    0x000a_1004,
-    0x0041_2005,
-    0x0047_2006,
-    0x0050_2007,
-    0x0058_2008,
-    0x0082_2109,
-    0x00b6_210a,
-    0x00b7_210b,
-    0xb205_200c,
-    0xb208_210d,
-    0xb209_210e,
-    0x0083_210f,
-    0x00ae_210f,
-    0xb230_210f,
-    0xb231_210f,
-    0xb232_210f,
-    0xb233_210f,
-    0xb234_210f,
-    0xb235_210f,
-    0xb236_210f,
-    0xb237_210f,
-    0xb238_210f,
-    0xb239_210f,
-    0xb23a_210f,
-    0xb23b_210f,
-    0xb23c_210f,
+// halfwords, one that is 1 where the opcode is privileged, one for the alignment, and two for the class, by its place among the
+// classes.
+const ROWS: [u64; 30] = [
+    0x0018_101_00,
+    0x001a_101_01,
+    0x001b_101_02,
+    0x0007_101_03,
+    0x000a_101_04,
+    0x0041_201_05,
+    0x0047_201_06,
+    0x0050_201_07,
+    0x0058_201_08,
+    0x0082_218_09,
+    0x00b6_214_0a,
+    0x00b7_214_0b,
+    0xb205_201_0c,
+    0xb208_218_0d,
+    0xb209_218_0e,
+    0x0083_211_0f,
+    0x00ae_211_0f,
+    0xb230_211_0f,
+    0xb231_211_0f,
+    0xb232_211_0f,
+    0xb233_211_0f,
+    0xb234_211_0f,
+    0xb235_211_0f,
+    0xb236_211_0f,
+    0xb237_211_0f,
+    0xb238_211_0f,
+    0xb239_211_0f,
+    0xb23a_211_0f,
+    0xb23b_211_0f,
+    0xb23c_211_0f,
 ];
 
 // The table as one value. An index into the constant itself would make all of it anew.
-fn rows() -> [u32; 30]
+fn rows() -> [u64; 30]
     ensures { λ r. ⌜ r ≡ map packed opcodes ⌝ }
 {
     ROWS
@@ -61,8 +62,8 @@ fn number_of(first: u32) -> u32
 }
 
 // The length in halfwords, by the two leftmost bits.
-pub fn length_of(first: u32) -> u8
-    ensures { λ r. ⌜ (r ≡ lengthOf first) × (1 ≤ r) × (r ≤ 3) ⌝ }
+fn length_of(first: u32) -> u8
+    ensures { λ r. ⌜ r ≡ lengthOf first ⌝ }
 {
     if first / 16384 % 4 == 0 {
         return 1;
@@ -104,16 +105,17 @@ pub fn decode(first: u32) -> Opcode
     requires { ⌜ first < 65536 ⌝ }
     ensures { λ r. ⌜ r ≡ opcodeOf first ⌝ }
 {
-    let number = number_of(first);
+    let number = number_of(first) as u64;
     let table = rows();
     let mut k: usize = 0;
     while k < 30 {
         let row = table[k];
-        if row / 65536 == number {
+        if row / 1048576 == number {
             return Opcode {
-                length: (row / 4096 % 16) as u8,
-                privileged: row / 256 % 16 == 1,
-                class: class_of(row % 256),
+                length: (row / 65536 % 16) as u8,
+                privileged: row / 4096 % 16 == 1,
+                alignment: (row / 256 % 16) as u8,
+                class: class_of((row % 256) as u32),
             };
         }
         k += 1;
@@ -121,6 +123,7 @@ pub fn decode(first: u32) -> Opcode
     Opcode {
         length: length_of(first),
         privileged: false,
+        alignment: 1,
         class: Class::Unassigned,
     }
 }

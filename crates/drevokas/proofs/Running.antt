@@ -27,7 +27,8 @@ use Rattle.machine.proofs.Lens.{withCpu-cpuOf}
 use Rattle.machine.proofs.Verdicts.{accepted-test, length-of-right, keys-of-right}
 use Rattle.run.specs.declared.Ended.{Ended}
 use Rattle.run.specs.Running.{machineAt, Ends}
-use Rattle.drevokas.specs.Packing.{packedAnswer, placeAfterRun, Gives, RunGives}
+use Rattle.packing.specs.Packing.{packedAnswer, placeAfterRun}
+use Rattle.drevokas.specs.Giving.{Gives, RunGives}
 
 module _ (n : Numbers) (r storage keys : List ℕ) (accepted : runVerdict n r storage keys ≡ Accepted) where
   pub run-length : length r ≡ 200

@@ -18,7 +18,7 @@ use Rattle.machine.specs.Psw.{withPsw, withAddress, advanced}
 use Rattle.machine.specs.Failures.{operation, isTranslation}
 use Rattle.machine.specs.Host.{Host}
 use Rattle.machine.specs.Outcomes.{Outcome, intercepted, faulted, Progress}
-use Rattle.machine.specs.Interruptions.{programAreas, codeFields, interrupt, afterException, programFields, exception}
+use Rattle.machine.specs.Interruptions.{Areas, programAreas, codeFields, interrupt, afterException, programFields, exception}
 use Rattle.execute.specs.declared.Done.{Done}
 use Rattle.execute.specs.declared.Event.the-variants as event
 use Rattle.execute.specs.declared.Frames.{Frames}
@@ -32,6 +32,14 @@ code-word ilc code short small =
     let third : (ilc * 131072 + code) / 256 % 256 ≡ code / 256 % 256 = omega arith in
     let fourth : (ilc * 131072 + code) % 256 ≡ code % 256 = omega arith in
     λ i. first i ∷ second i ∷ third i ∷ fourth i ∷ []
+
+-- the code fields of a program interruption, as the code holds them
+pub fields-as-word : (x : Progress) (f : Failure) (ilc : ℕ) {long : Bool} → ilc ≤ 3 → f .code < 65536 → x .text .ilc ≡ ilc → long ≡ isTranslation (f .code)
+    → codeBytes (ilc * 131072 + f .code) (f .address) long ≡ programFields x f
+unfolding programFields
+fields-as-word x f ilc short small told same =
+    ap (codeBytes (ilc * 131072 + f .code) (f .address)) same
+    ∙ ap (λ l. l ++ cond (isTranslation (f .code)) (wordBytes (f .address)) []) (code-word ilc (f .code) short small ∙ ap (λ n. codeFields n (f .code)) (sym told))
 
 taken : {b : Bool} (o p : Outcome) → b ≡ true → cond b o p ≡ o
 taken o p e = ap (λ b. cond b o p) e
@@ -51,13 +59,6 @@ module _ (h : Host) (x : Progress) {g : Guest} {clock : ℕ} {c : Cpu} {text : T
   unfolding exception
   by-controls guests = rw (guests, standing .ofGuest, standing .ofText)
 
-  fields-as-word : text .ilc ≤ 3 → f .code < 65536
-      → programFields x f ≡ codeBytes (text .ilc * 131072 + f .code) (f .address) (isTranslation (f .code))
-  unfolding programFields
-  fields-as-word short small =
-      ap (λ k. codeFields (k .ilc) (f .code) ++ cond (isTranslation (f .code)) (wordBytes (f .address)) []) (standing .ofText)
-      ∙ ap (λ l. l ++ cond (isTranslation (f .code)) (wordBytes (f .address)) []) (sym (code-word (text .ilc) (f .code) short small))
-
   pub excepted-host : f .host ≡ true → (d : Done) → d .event ≡ event.Faulted f → leftBy c d ≡ c → Left h g c (exception x to f) d (h .storage) (h .keys)
   unfolding exception
   excepted-host host d ended kept =
@@ -76,16 +77,11 @@ module _ (h : Host) (x : Progress) {g : Guest} {clock : ℕ} {c : Cpu} {text : T
       (left-intercepted h g c (Program (f .code) (text .ilc) (f .address)) (afterException x to f) d ended left)
 
   pub excepted-interruption : f .host ≡ false → (eqb (f .code) operation && bit 8 0 (g .interceptions)) ≡ false → bit 8 1 (g .interceptions) ≡ false
-      → text .ilc ≤ 3 → f .code < 65536 → (d : Done) (to' : Cpu) {long : Bool} {storage keys : List ℕ} → to' ≡ afterException x to f
-      → long ≡ isTranslation (f .code) → Left h g c (interrupt x to' programAreas (codeBytes (text .ilc * 131072 + f .code) (f .address) long)) d storage keys
-      → Left h g c (exception x to f) d storage keys
-  excepted-interruption guests other refused short small d to' {storage = storage} {keys = keys} reached same left =
-      let fields = ap (codeBytes (text .ilc * 131072 + f .code) (f .address)) same ∙ sym (fields-as-word short small) in
+      → (d : Done) {to' : Cpu} {areas : Areas} {fields storage keys : List ℕ} → to' ≡ afterException x to f → areas ≡ programAreas → fields ≡ programFields x f
+      → Left h g c (interrupt x to' areas fields) d storage keys → Left h g c (exception x to f) d storage keys
+  excepted-interruption guests other refused d {storage = storage} {keys = keys} reached areas fields left =
       rw (by-controls guests, other, refused)
-      (subst
-      (λ p. Left h g c (interrupt x p programAreas (programFields x f)) d storage keys)
-      reached
-      (subst (λ l. Left h g c (interrupt x to' programAreas l) d storage keys) fields left))
+      (subst (λ o. Left h g c o d storage keys) (λ i. interrupt x (reached i) (areas i) (fields i)) left)
 
 module _ (x : Progress) (k : Cpu) (f : Failure) {psw : Psw} where
   pub at-the-instruction : (isTranslation (f .code) || eqb (x .text .ilc) 0) ≡ true → k .psw ≡ psw → withPsw k psw ≡ afterException x k f

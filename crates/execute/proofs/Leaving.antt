@@ -1,10 +1,11 @@
 -- What `Done` leaves of a state, and when an outcome is left.
 -- Assumes nothing.
-use Prim.Native.Nat.{ℕ, _+_, _*_, _≤_, _<_}
+use Prim.Native.Nat.{ℕ, _+_, _-_, _*_, _≤_, _<_}
 use native.Mathlib.Omega.{arith}
 use mathlib.Core.Path.{_≡_, ap, sym, subst, _∙_}
 use mathlib.Core.Bool.{Bool, true, false}
 use mathlib.Core.List.{List}
+use borrow.Rule.Slice.PartMut.{midOf, putMid, mid-len}
 use lib.ListN.{length}
 use lib.Seq.{sets, set-out}
 use Rattle.machine.specs.declared.Cpu.{Cpu}
@@ -22,6 +23,7 @@ use Rattle.machine.specs.Host.{Host, hostVirtual, backing, view, referenced, ch
 use Rattle.machine.specs.Outcomes.{Outcome, faulted, Progress}
 use Rattle.machine.specs.Interruptions.{interrupt}
 use Rattle.address.specs.Operands.{markFrame}
+use Rattle.writer.proofs.Parts.{two-in-part}
 use Rattle.execute.specs.declared.Done.{Done}
 use Rattle.execute.specs.declared.Event.{Event}
 use Rattle.execute.specs.declared.Event.the-variants as event
@@ -76,6 +78,16 @@ fields-fit word address code false fits = omega arith
 fields-some : (word address : ℕ) (long : Bool) → 0 < length (codeBytes word address long)
 fields-some word address true = omega arith
 fields-some word address false = omega arith
+
+-- the areas of an interruption, stored in the part of a frame, are stored at the frame's address
+pub areas-in-frame : (s : List ℕ) (frame : ℕ) (psw : Psw) (i : Interruption) → InPrefixPage i → frame * 4096 + 4096 ≤ length s
+    → putMid (frame * 4096) (frame * 4096 + 4096 - frame * 4096) s
+    (sets (sets (midOf (frame * 4096) (frame * 4096 + 4096 - frame * 4096) s) (i .old) (pswBytes psw)) (i .code) (fieldsOf i))
+    ≡ sets (sets s (frame * 4096 + i .old) (pswBytes psw)) (frame * 4096 + i .code) (fieldsOf i)
+areas-in-frame s frame psw i (old, code, new) inside =
+    let part = mid-len (frame * 4096) (frame * 4096 + 4096) s inside in
+    two-in-part s (frame * 4096) (frame * 4096 + 4096 - frame * 4096) (omega arith) (pswBytes psw) (fieldsOf i) (i .old) (i .code) (omega arith)
+    (omega (arith, fields-fit (i .word) (i .address) (i .code) (i .long) code))
 
 -- an interruption by the host page behind its areas
 module _ (h : Host) (x : Progress) {g : Guest} {clock : ℕ} {c : Cpu} {text : Text} {t : Frames} (standing : Standing h x g clock c text t)

@@ -1,7 +1,7 @@
 // What the instructions share: how a unit ends, exceptions and interruptions put into effect, and operands that are reached.
 ghost use mathlib.Core.Path.{_≡_};
-ghost use Prim.Native.Nat.{ℕ, _+_, _*_, _≤_, _<_};
-ghost use mathlib.Core.Bool.{_&&_};
+ghost use Prim.Native.Nat.{ℕ, _+_, _*_, _/_, _≤_, _<_};
+ghost use mathlib.Core.Bool.{false, _&&_};
 ghost use lib.Dec.{eqb};
 ghost use lib.ListN.{length};
 ghost use lib.Seq.{sets};
@@ -12,12 +12,12 @@ ghost use Rattle.machine.specs.Refusals.{framesOf};
 ghost use Rattle.machine.specs.Failures.{operation, isTranslation};
 ghost use Rattle.machine.specs.Host.{Host, host, backing, referenced, changed};
 ghost use Rattle.machine.specs.Outcomes.{Progress};
-ghost use Rattle.machine.specs.Interruptions.{interrupt, afterException, exception};
+ghost use Rattle.machine.specs.Interruptions.{programAreas, programFields, interrupt, afterException, exception};
 ghost use Rattle.storage.specs.Entered.{Entered};
 ghost use Rattle.address.specs.Touching.{Inside, Backed};
 ghost use Rattle.address.specs.Operands.{operandOf, markFrame};
 ghost use Rattle.execute.specs.After.{endedWith, WithKeys, markText, leftBy, Before, Standing, Left, areasOf, codeBytes, fieldsOf, InPrefixPage, withRegisters};
-ghost use Rattle.execute.specs.Reaching.{Ready, InReach, Reaches, Within, Does};
+ghost use Rattle.execute.specs.Reaching.{Ready, InReach, Reaches, Within, Does, markAll};
 use address::Operand;
 use machine::Cpu;
 use machine::Failure;
@@ -81,6 +81,8 @@ const SEGMENT: u32 = 16;
 const PAGE: u32 = 17;
 
 const NONE: u32 = 16;
+
+const FRAME: usize = 4096;
 
 // A host fault: the state is the one before the unit.
 fn faulted(start: Psw, after: Done, f: Failure) -> Done
@@ -187,9 +189,10 @@ pub fn mark_text(keys: &mut [u8], t: Frames)
     writer::mark_fetched(keys, t.second);
 }
 
-// Stores an old PSW and the code fields of an interruption, the address among them where it is long.
+// Stores an old PSW and the code fields of an interruption, the address among them where it is long, in the frame's part of
+// storage.
 fn put_areas(
-    storage: &mut [u8],
+    part: &mut [u8],
     old: usize,
     psw: Psw,
     code: usize,
@@ -197,15 +200,15 @@ fn put_areas(
     address: u32,
     long: bool,
 )
-    requires { ⌜ old + 8 ≤ length (now storage) ⌝ }
-    requires { ⌜ code + 8 ≤ length (now storage) ⌝ }
-    ensures { λ _. ⌜ now (storage .exit) ≡ sets (sets (now (storage .entry)) old (pswBytes psw)) code (codeBytes word address long) ⌝ }
+    requires { ⌜ old + 8 ≤ length (now part) ⌝ }
+    requires { ⌜ code + 8 ≤ length (now part) ⌝ }
+    ensures { λ _. ⌜ now (part .exit) ≡ sets (sets (now (part .entry)) old (pswBytes psw)) code (codeBytes word address long) ⌝ }
 {
-    words::put_word(storage, old, psw.left);
-    words::put_word(storage, old + 4, psw.right);
-    words::put_word(storage, code, word);
+    words::put_word(part, old, psw.left);
+    words::put_word(part, old + 4, psw.right);
+    words::put_word(part, code, word);
     if long {
-        words::put_word(storage, code + 4, address);
+        words::put_word(part, code + 4, address);
     }
 }
 
@@ -224,15 +227,16 @@ fn interrupt_open(
     ensures { λ _. ⌜ now (storage .exit) ≡ sets (sets (now (storage .entry)) (frame * 4096 + i .old) (pswBytes (after .psw))) (frame * 4096 + i .code) (fieldsOf i) ⌝ }
     ensures { λ _. ⌜ now (keys .exit) ≡ markFrame changed frame (markFrame referenced frame (markText t (now (keys .entry)))) ⌝ }
 {
-    let base = frame as usize * 4096;
+    let base = frame as usize * FRAME;
     let left = words::word_at(storage, base + i.new as usize);
     let right = words::word_at(storage, base + i.new as usize + 4);
     let psw = after.psw;
+    let end = base + FRAME;
     put_areas(
-        storage,
-        base + i.old as usize,
+        &mut storage[base..end],
+        i.old as usize,
         psw,
-        base + i.code as usize,
+        i.code as usize,
         i.word,
         i.address,
         i.long,
@@ -332,6 +336,21 @@ fn intercepts_operation(guest: Guest, code: u32) -> bool
     false
 }
 
+// The program interruption of an exception.
+fn program_interruption(ilc: u8, f: Failure) -> Interruption
+    requires { ⌜ (ilc ≤ 3) × (f .code < 65536) ⌝ }
+    ensures { λ r. ⌜ InPrefixPage r × (areasOf r ≡ programAreas) × ((x : Progress) → x .text .ilc ≡ ilc → fieldsOf r ≡ programFields x f) ⌝ }
+{
+    Interruption {
+        old: 40,
+        code: 140,
+        new: 104,
+        word: ilc as u32 * 131072 + f.code,
+        address: f.address,
+        long: translation(f.code),
+    }
+}
+
 // A program exception or a host fault: a fault, an interception or a program interruption.
 pub fn exception(
     storage: &mut [u8],
@@ -366,14 +385,7 @@ pub fn exception(
         };
         return ended_with(Event::Intercepted(reason), after, psw);
     }
-    let i = Interruption {
-        old: 40,
-        code: 140,
-        new: 104,
-        word: text.ilc as u32 * 131072 + f.code,
-        address: f.address,
-        long: translation(f.code),
-    };
+    let i = program_interruption(text.ilc, f);
     let done = ended_with(Event::Completed, after, psw);
     interrupt(storage, keys, designation, guest, start, done, i, t)
 }
@@ -395,6 +407,34 @@ pub fn excepted(
 {
     let done = with_psw(cpu, cpu.psw);
     exception(storage, keys, designation, guest, cpu.psw, done, text, f, t)
+}
+
+// An operand of n bytes that is open: the marks of the text and of its bytes are made.
+fn reach_open(
+    keys: &mut [u8],
+    cpu: Cpu,
+    t: Frames,
+    store: bool,
+    n: u32,
+    first: u32,
+    count: u32,
+    second: u32,
+) -> Reached
+    requires { ⌜ WithKeys (now keys) t ⌝ }
+    requires { ⌜ (first / 4096 < length (now keys)) × (count < n → second / 4096 < length (now keys)) ⌝ }
+    ensures { λ r. ⌜ (r .shut ≡ false) × (r .first ≡ first) × (r .count ≡ count) × (r .second ≡ second) ⌝ }
+    ensures { λ _. ⌜ now (keys .exit) ≡ markAll t store n first count second (now (keys .entry)) ⌝ }
+{
+    mark_text(keys, t);
+    writer::mark_operand(keys, n, first, count, second, store);
+    let done = with_psw(cpu, cpu.psw);
+    Reached {
+        shut: false,
+        first,
+        count,
+        second,
+        done,
+    }
 }
 
 // An operand of n bytes, by where it stands: the unit ends where it is shut, and the marks are made where it is open.
@@ -431,19 +471,29 @@ fn reach_by(
             first,
             count,
             second,
-        } => {
-            mark_text(keys, t);
-            writer::mark_operand(keys, n, first, count, second, store);
-            let done = with_psw(cpu, cpu.psw);
-            Reached {
-                shut: false,
-                first,
-                count,
-                second,
-                done,
-            }
-        }
+        } => reach_open(keys, cpu, t, store, n, first, count, second),
     }
+}
+
+// Where the operand of n bytes at a wrapped logical address of this CPU stands.
+fn operand_of(
+    storage: &[u8],
+    keys: &[u8],
+    designation: u32,
+    guest: Guest,
+    cpu: Cpu,
+    store: bool,
+    a: u32,
+    n: u32,
+) -> Operand
+    requires { ⌜ Entered guest × (framesOf (now storage) ≤ length (now keys)) ⌝ }
+    requires { ⌜ (wrap cpu a ≡ a) × (1 ≤ n) × (n ≤ 4096) ⌝ }
+    ensures { λ r. ⌜ r ≡ operandOf guest (host designation (now (storage .entry)) (now (keys .entry))) cpu store a n ⌝ }
+    ensures { λ r. ⌜ InReach (now (storage .entry)) (now (keys .entry)) n r ⌝ }
+{
+    let psw = cpu.psw;
+    let control = cpu.control;
+    address::find_operand(storage, keys, designation, guest, psw, control, store, a, n)
 }
 
 // Reaches the operand of n bytes at a wrapped logical address: every access is known good before anything is stored or marked.
@@ -466,17 +516,7 @@ pub fn reach(
         (operandOf guest (host designation (now (storage .entry)) (now (keys .entry))) cpu store a n)) ⌝ }
     ensures { λ r. ⌜ Within (now (storage .exit)) n r ⌝ }
 {
-    let operand = address::find_operand(
-        storage,
-        keys,
-        designation,
-        guest,
-        cpu.psw,
-        cpu.control,
-        store,
-        a,
-        n,
-    );
+    let operand = operand_of(storage, keys, designation, guest, cpu, store, a, n);
     reach_by(
         storage,
         keys,

@@ -17,7 +17,8 @@ use Rattle.machine.specs.declared.TableEntry.the-variants.{Word, Unread}
 use Rattle.machine.specs.declared.Walk.{Walk}
 use Rattle.machine.specs.declared.Walk.the-variants.{Page, Failed}
 use Rattle.machine.specs.Words.{wordAt}
-use Rattle.machine.specs.Entry.{pageBytes, extentBytes}
+use Rattle.machine.specs.Sizes.{pageBytes}
+use Rattle.machine.specs.Entry.{extentBytes}
 use Rattle.machine.specs.Psw.{datOn, control}
 use Rattle.machine.specs.Failures.{addressing, protection, translationSpecification, hostFault, exceptionOf, walkException}
 use Rattle.machine.specs.Walk.{segmentIndex, pageIndex, segmentEntryAt, pageEntryAt, pastSegmentTable, walkPage, walkSegment, walk}

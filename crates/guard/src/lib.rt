@@ -13,7 +13,6 @@ ghost use Rattle.storage.specs.Steps.{readThrough, tableLeads, segmentLeads};
 ghost use Rattle.address.specs.Touching.{seen, Aligned, touchOf};
 ghost use Rattle.address.specs.Locating.{entryIn, pageIn};
 ghost use Rattle.guard.specs.Guarding.{Wider, Alike};
-use machine::Failure;
 use machine::Guest;
 use machine::Psw;
 use machine::Registers;
@@ -133,11 +132,7 @@ fn name_entry(
 {
     let at = prefixed(guest, real);
     if at >= guest.extent as u32 * 65536 {
-        return TableEntry::Unread(Failure {
-            host: false,
-            code: ADDRESSING,
-            address: 0,
-        });
+        return TableEntry::Unread(address::exception_of(ADDRESSING));
     }
     name_host(
         storage,
@@ -201,11 +196,7 @@ fn name_tables(
     }
     let cr0 = control.words[0];
     if cr0 / 524288 % 32 != 22 {
-        return Walk::Failed(Failure {
-            host: false,
-            code: TRANSLATION_SPECIFICATION,
-            address: 0,
-        });
+        return Walk::Failed(address::exception_of(TRANSLATION_SPECIFICATION));
     }
     let cr1 = control.words[1];
     let segment = name_through(storage, guard, designation, guest, table_leads(cr1, a));

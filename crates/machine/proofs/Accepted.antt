@@ -1,25 +1,25 @@
 -- Good input is not refused; on a good entry a run with no budget and one with a stop request end differently.
 -- Assumes nothing.
-use Prim.Native.Nat.{ℕ, zero, suc, _+_, _*_, _/_, _%_, _≤_, _<_}
+use Prim.Native.Nat.{ℕ, zero, suc, _*_, _/_, _%_, _≤_, _<_}
 use native.Mathlib.Omega.{arith}
 use mathlib.Core.Path.{_≡_, ap, _∙_}
 use mathlib.Core.Bool.{true, false}
 use mathlib.Core.List.{List}
-use lib.Dec.{lit<, lit≤}
 use lib.ListN.{length}
 use borrow.Author.Tests.{eq-eqb, ne-eqb, le-ltb}
 use Rattle.machine.specs.declared.Answer.the-variants.{Ended}
 use Rattle.machine.specs.declared.End.the-variants.{Intercepted}
 use Rattle.machine.specs.declared.Numbers.{Numbers}
 use Rattle.machine.specs.declared.Reason.the-variants.{Stop}
-use Rattle.machine.specs.Words.{byteAt, halfAt, wordAt}
 use Rattle.machine.specs.Record.{guestOf}
-use Rattle.machine.specs.Refusals.{frameBytes, mostFrames, mostUnits, mostTime, wrongLength, wrongVersion, wrongStorage, wrongKeys, wrongBudget, wrongTime, reservedUsed, wrongAccess, checkVerdict, translateVerdict, runVerdict}
+use Rattle.machine.specs.Sizes.{frameBytes}
+use Rattle.machine.specs.Refusals.{mostFrames, mostUnits, mostTime, wrongLength, wrongVersion, wrongStorage, wrongKeys, wrongBudget, wrongTime, reservedUsed, wrongAccess, checkVerdict, translateVerdict, runVerdict}
 use Rattle.machine.specs.Units.{stopRequested, unit}
 use Rattle.machine.specs.Run.{Machine, unitFrom, stepOf, step, onward, run}
 use Rattle.machine.specs.Operations.{resultOf, machineOf, runAs, runOf}
 use Rattle.machine.specs.Theorems.{GoodInput, GoodInputIsAccepted, BudgetAndStopDiffer}
 use Rattle.machine.proofs.Laws.{guest-of-withResults}
+use Rattle.machine.proofs.Verdicts.{unused}
 
 module _ (r storage keys : List ℕ) (good : GoodInput r storage keys) where
   length-good : wrongLength r ≡ false
@@ -44,12 +44,8 @@ module _ (r storage keys : List ℕ) (good : GoodInput r storage keys) where
   keys-good = rw (eq-eqb (length keys) (length storage / frameBytes) (omega (arith, good)))
 
   reserved-good : reservedUsed r ≡ false
-  unfolding reservedUsed wordAt
-  reserved-good =
-      rw (eq-eqb (wordAt r 66 + halfAt r 70) 0 (omega (arith, z 66 (lit≤ tt) (lit< tt), z 67 (lit≤ tt) (lit< tt), z 68 (lit≤ tt) (lit< tt), z 69 (lit≤ tt) (lit< tt), z 70 (lit≤ tt) (lit< tt), z 71 (lit≤ tt) (lit< tt))))
-    where
-      z : (i : ℕ) → 66 ≤ i → i < 72 → byteAt r i ≡ 0
-      z = good .reserved
+  unfolding reservedUsed
+  reserved-good = unused r 66 6 (good .reserved)
 
   access-good : (kind : ℕ) → kind ≤ 2 → wrongAccess kind ≡ false
   unfolding wrongAccess

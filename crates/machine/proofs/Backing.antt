@@ -15,10 +15,11 @@ use Rattle.machine.specs.declared.TableEntry.the-variants.{Word, Unread}
 use Rattle.machine.specs.declared.Walk.{Walk}
 use Rattle.machine.specs.declared.Walk.the-variants.{Page, Failed}
 use Rattle.machine.specs.Words.{byteAt, wordAt}
-use Rattle.machine.specs.Refusals.{frameBytes, framesOf}
+use Rattle.machine.specs.Sizes.{frameBytes, pageBytes}
+use Rattle.machine.specs.Refusals.{framesOf}
 use Rattle.machine.specs.Entry.{entryGood, extentBytes}
 use Rattle.machine.specs.Failures.{addressing, segmentTranslation, hostFault}
-use Rattle.machine.specs.Walk.{frameOf, pageProtected, pastSegmentTable, walk, walkSegment, walkPage}
+use Rattle.machine.specs.Walk.{segmentIndex, pageIndex, frameOf, pageProtected, pastSegmentTable, walk, walkSegment, walkPage}
 use Rattle.machine.specs.Host.{Host, host, hostVirtual, hostEntry, inStorage, hostPage, backing, inFrame, cellOf, view}
 use Rattle.machine.specs.Frames.{InExtent, segmentPlace, segmentOf, pagePlace, pageOf, SegmentInReach, ValidPage, Describes, GuestFrame}
 use Rattle.machine.proofs.Laws.{word-of-bytes}
@@ -32,15 +33,18 @@ pub record SameEntries (g : Guest) (d : ℕ) (s₁ s₂ : List ℕ) : Type 0 whe
 -- the walk, by the number of the page
 pub walk-by-page : (read : ℕ → TableEntry) (fail : ℕ → Failure) (d v : ℕ)
     → walk read fail d v
-    ≡ cond (pastSegmentTable d (v / 4096 / 256)) (Failed (fail segmentTranslation)) (walkSegment read fail (v / 4096 % 256) (read (segmentPlace d (v / 4096))))
+    ≡ cond (pastSegmentTable d (segmentIndex (v / pageBytes * pageBytes))) (Failed (fail segmentTranslation)) (walkSegment read fail (pageIndex (v / pageBytes * pageBytes)) (read (segmentPlace d (v / pageBytes))))
 unfolding walk
-walk-by-page read fail d v = let e : v / 1048576 ≡ v / 4096 / 256 = omega arith in rw e
+walk-by-page read fail d v =
+    let e : segmentIndex v ≡ segmentIndex (v / pageBytes * pageBytes) = omega arith in
+    let f : pageIndex v ≡ pageIndex (v / pageBytes * pageBytes) = omega arith in
+    rw (e, f)
 
 page-in-extent : (g : Guest) (a : ℕ) → ltb a (extentBytes g) ≡ true → InExtent g (hostVirtual g a / 4096)
 page-in-extent g a e = let h : a < extentBytes g = ltb-true _ _ e in record { low = omega arith; high = omega arith }
 
 -- what holds of a host entry that is read and of one that is not holds of each
-read-or-not : (P : TableEntry → Type 0) (s : List ℕ) (v at : ℕ) → (at + 4 ≤ length s → P (Word (wordAt s at))) → P (Unread (hostFault v addressing)) → P (hostEntry s v at)
+pub read-or-not : (P : TableEntry → Type 0) (s : List ℕ) (v at : ℕ) → (at + 4 ≤ length s → P (Word (wordAt s at))) → P (Unread (hostFault v addressing)) → P (hostEntry s v at)
 unfolding hostEntry
 read-or-not P s v at can cannot = go (leb (at + 4) (length s)) refl
   where
@@ -61,27 +65,27 @@ module _ (g : Guest) (d : ℕ) (s₁ s₂ : List ℕ) (same : SameEntries g d s�
       (same-test (leb (at + 4) (length s₁)) (λ e. ap Word (word-of-bytes s₁ s₂ at λ i low high. same .entries at i (describes (leb-true _ _ e)) low high)) (λ _. refl))
 
   -- the page entry of a segment entry that the walk has read
-  same-page : (v : ℕ) → InExtent g (v / 4096) → SegmentInReach d s₁ (v / 4096)
-      → walkSegment (hostEntry s₁ v) (hostFault v) (v / 4096 % 256) (Word (segmentOf d s₁ (v / 4096)))
-      ≡ walkSegment (hostEntry s₂ v) (hostFault v) (v / 4096 % 256) (Word (segmentOf d s₁ (v / 4096)))
+  same-page : (v : ℕ) → InExtent g (v / pageBytes) → SegmentInReach d s₁ (v / pageBytes)
+      → walkSegment (hostEntry s₁ v) (hostFault v) (pageIndex (v / pageBytes * pageBytes)) (Word (segmentOf d s₁ (v / pageBytes)))
+      ≡ walkSegment (hostEntry s₂ v) (hostFault v) (pageIndex (v / pageBytes * pageBytes)) (Word (segmentOf d s₁ (v / pageBytes)))
   unfolding walkSegment
   same-page v inside segment =
       same-test _ (λ _. refl) λ valid. same-test _ (λ _. refl) λ formed. same-test _ (λ _. refl) λ inTable.
-      ap (walkPage (hostFault v)) (same-entry v (pagePlace d s₁ (v / 4096)) λ fits. record {
+      ap (walkPage (hostFault v)) (same-entry v (pagePlace d s₁ (v / pageBytes)) λ fits. record {
         good = good;
-        page = v / 4096;
+        page = v / pageBytes;
         inside = inside;
         which = inr (refl, record { segment = segment; valid = valid; formed = formed; inTable = inTable; inStorage = fits });
       })
 
-  same-walk : (v : ℕ) → InExtent g (v / 4096) → walk (hostEntry s₁ v) (hostFault v) d v ≡ walk (hostEntry s₂ v) (hostFault v) d v
+  same-walk : (v : ℕ) → InExtent g (v / pageBytes) → walk (hostEntry s₁ v) (hostFault v) d v ≡ walk (hostEntry s₂ v) (hostFault v) d v
   unfolding walkSegment
   same-walk v inside = simp walk-by-page (same-test _ (λ _. refl) λ near.
-      read-or-not (λ x. walkSegment (hostEntry s₁ v) (hostFault v) (v / 4096 % 256) x ≡ walkSegment (hostEntry s₂ v) (hostFault v) (v / 4096 % 256) x) s₁ v _
+      read-or-not (λ x. walkSegment (hostEntry s₁ v) (hostFault v) (pageIndex (v / pageBytes * pageBytes)) x ≡ walkSegment (hostEntry s₂ v) (hostFault v) (pageIndex (v / pageBytes * pageBytes)) x) s₁ v _
       (λ fits. same-page v inside (record { inTable = near; inStorage = fits })) refl
-      ∙ ap (walkSegment (hostEntry s₂ v) (hostFault v) (v / 4096 % 256)) (same-entry v (segmentPlace d (v / 4096)) λ fits. record {
+      ∙ ap (walkSegment (hostEntry s₂ v) (hostFault v) (pageIndex (v / pageBytes * pageBytes))) (same-entry v (segmentPlace d (v / pageBytes)) λ fits. record {
         good = good;
-        page = v / 4096;
+        page = v / pageBytes;
         inside = inside;
         which = inl (refl, record { inTable = near; inStorage = fits });
       }))
@@ -113,13 +117,13 @@ abbrev EndsAt : ℕ → List ℕ → ℕ → ℕ → Type 0
 EndsAt d s page f = ValidPage d s page × (frameOf (pageOf d s page) ≡ f)
 
 module _ (d : ℕ) (s : List ℕ) where
-  pub ends-at-page : (v : ℕ) {f : ℕ} {p : Bool} → walk (hostEntry s v) (hostFault v) d v ≡ Page f p → EndsAt d s (v / 4096) f
+  pub ends-at-page : (v : ℕ) {f : ℕ} {p : Bool} → walk (hostEntry s v) (hostFault v) d v ≡ Page f p → EndsAt d s (v / pageBytes) f
   unfolding walkSegment walkPage
   ends-at-page v {f} {p} e =
       tested _ (λ _. no-failure)
-      (λ near. read-or-not (λ x. walkSegment (hostEntry s v) (hostFault v) (v / 4096 % 256) x ≡ Page f p → EndsAt d s (v / 4096) f) s v (segmentPlace d (v / 4096))
+      (λ near. read-or-not (λ x. walkSegment (hostEntry s v) (hostFault v) (pageIndex (v / pageBytes * pageBytes)) x ≡ Page f p → EndsAt d s (v / pageBytes) f) s v (segmentPlace d (v / pageBytes))
       (λ fits. tested _ (λ _. no-failure) λ valid. tested _ (λ _. no-failure) λ formed. tested _ (λ _. no-failure) λ inTable.
-      read-or-not (λ x. walkPage (hostFault v) x ≡ Page f p → EndsAt d s (v / 4096) f) s v (pagePlace d s (v / 4096))
+      read-or-not (λ x. walkPage (hostFault v) x ≡ Page f p → EndsAt d s (v / pageBytes) f) s v (pagePlace d s (v / pageBytes))
       (λ fits′. tested _ (λ _. no-failure) λ pageValid. tested _ (λ _. no-failure) λ pageFormed e. (
         record {
           reach = record {
@@ -138,8 +142,8 @@ module _ (d : ℕ) (s : List ℕ) where
       no-failure)
       (rw walk-by-page at e)
 
-  pub finds-page : (v : ℕ) → ValidPage d s (v / 4096)
-      → walk (hostEntry s v) (hostFault v) d v ≡ Page (frameOf (pageOf d s (v / 4096))) (pageProtected (pageOf d s (v / 4096)))
+  pub finds-page : (v : ℕ) → ValidPage d s (v / pageBytes)
+      → walk (hostEntry s v) (hostFault v) d v ≡ Page (frameOf (pageOf d s (v / pageBytes))) (pageProtected (pageOf d s (v / pageBytes)))
   unfolding walkSegment walkPage hostEntry
   finds-page v valid =
       rw walk-by-page

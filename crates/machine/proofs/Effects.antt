@@ -8,7 +8,7 @@ use lib.ListN.{length, getD, set, length-set}
 use lib.Seq.{getD-set-other}
 use Rattle.machine.specs.declared.Walk.{Walk}
 use Rattle.machine.specs.declared.Walk.the-variants.{Page, Failed}
-use Rattle.machine.specs.Refusals.{frameBytes}
+use Rattle.machine.specs.Sizes.{frameBytes}
 use Rattle.machine.specs.Host.{Located, storeByte, stored, markKey, marked, referenced, changed}
 use Rattle.machine.specs.Outcomes.{Effects}
 use Rattle.machine.specs.Run.{markedBy}

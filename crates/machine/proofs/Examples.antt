@@ -18,7 +18,7 @@ use Rattle.machine.specs.declared.Walk.{Walk}
 use Rattle.machine.specs.declared.Walk.the-variants.{Page, Failed}
 use Rattle.machine.specs.Words.{bits, wordAt}
 use Rattle.machine.specs.Record.{guestOf, pswOf, cpuOf}
-use Rattle.machine.specs.Refusals.{wrongLength, wrongVersion, wrongStorage, wrongKeys, reservedUsed, wrongAccess, translateVerdict}
+use Rattle.machine.specs.Refusals.{wrongLength, wrongVersion, wrongStorage, wrongKeys, used, reservedUsed, wrongAccess, translateVerdict}
 use Rattle.machine.specs.Entry.{modeInstalled, extentFits, prefixFits, entryGood}
 use Rattle.machine.specs.Psw.{datOn, conditionCode, overflowEnabled, wrap, withPsw, withTimer, control, general, withGeneral, withAddress, advanced, withConditionCode}
 use Rattle.machine.specs.Time.{guestClock, comparatorDue, timerDue, timerAfter, charged}
@@ -141,7 +141,7 @@ starred-examples = record {
 
 -- the setup can be met: a record, a storage and keys of zeros, but for the fields and words that it names
 pub setup-exists : (r : List ℕ) × (h : Host) × Setup r h
-unfolding translateVerdict wrongLength wrongVersion wrongStorage wrongKeys reservedUsed wrongAccess guestOf cpuOf pswOf wordAt modeInstalled
+unfolding translateVerdict wrongLength wrongVersion wrongStorage wrongKeys used reservedUsed wrongAccess guestOf cpuOf pswOf wordAt modeInstalled
 setup-exists = (
   description,
   host,

@@ -6,7 +6,7 @@ use native.Mathlib.Omega.{arith}
 use mathlib.Core.Path.{_≡_, subst}
 use mathlib.Core.List.{List}
 use Rattle.machine.specs.Words.{byteAt}
-use Rattle.machine.specs.Refusals.{frameBytes}
+use Rattle.machine.specs.Sizes.{frameBytes}
 
 -- the host absolute addresses of the bytes of the frames P
 abbrev pub In : (ℕ → Type 0) → ℕ → Type 0

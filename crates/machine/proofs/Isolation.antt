@@ -12,16 +12,17 @@ use Rattle.machine.specs.declared.Reason.the-variants.{Validity}
 use Rattle.machine.specs.declared.Verdict.{Verdict}
 use Rattle.machine.specs.declared.Verdict.the-variants.{Accepted, Refused}
 use Rattle.machine.specs.Record.{guestOf, withResults}
-use Rattle.machine.specs.Refusals.{frameBytes, wrongStorage, wrongKeys, translateVerdict, runVerdict}
+use Rattle.machine.specs.Sizes.{frameBytes}
+use Rattle.machine.specs.Refusals.{wrongStorage, wrongKeys, translateVerdict, runVerdict}
 use Rattle.machine.specs.Entry.{entryGood}
 use Rattle.machine.specs.Host.{Host, host, backing, view}
 use Rattle.machine.specs.Frames.{GuestFrame}
 use Rattle.machine.specs.Addresses.{Access, reached, denied}
 use Rattle.machine.specs.Run.{Machine, Ended, run}
-use Rattle.machine.specs.Operations.{check, addressIn, translatedTo, translatedAs, translate, Result, resultOf, machineOf, runAs, runOf}
+use Rattle.machine.specs.Operations.{addressIn, translatedTo, translatedAs, translate, Result, resultOf, machineOf, runAs, runOf}
 use Rattle.machine.specs.Answers.{endResults}
 use Rattle.machine.specs.Isolation.{RunFrame, Agree, Isolation}
-use Rattle.machine.specs.IsolationOfAnswers.{TranslationsAgree, IsolationOfTranslations, IsolationOfChecks}
+use Rattle.machine.specs.IsolationOfAnswers.{TranslationsAgree, IsolationOfTranslations}
 use Rattle.machine.proofs.Laws.{guest-of-withResults}
 use Rattle.machine.proofs.FrameBytes.{In, in-frame, same-bytes}
 use Rattle.machine.proofs.Backing.{same-test, same-backing, backed-by-guest-frame, same-frames-behind, same-view}
@@ -56,22 +57,22 @@ module _ (n : Numbers) (r s₁ k₁ s₂ k₂ : List ℕ) where
   module _ (agree : Agree n r s₁ k₁ s₂ k₂) where
     same-verdict : runVerdict n r s₁ k₁ ≡ runVerdict n r s₂ k₂
     unfolding runVerdict wrongStorage wrongKeys
-    same-verdict = simp (agree .lengths .0, agree .lengths .1)
+    same-verdict = simp (agree .alike .lengths .0, agree .alike .lengths .1)
 
     start-storage : Alike (In (RunFrame n r s₁ k₁)) s₁ s₂ s₁ s₂
     start-storage = record {
       outside₁ = unchanged _ s₁;
       outside₂ = unchanged _ s₂;
-      lengths = agree .lengths .0;
-      inside = same-bytes _ s₁ s₂ (agree .frames);
+      lengths = agree .alike .lengths .0;
+      inside = same-bytes _ s₁ s₂ (agree .alike .frames);
     }
 
     start-keys : Alike (RunFrame n r s₁ k₁) k₁ k₂ k₁ k₂
     start-keys = record {
       outside₁ = unchanged _ k₁;
       outside₂ = unchanged _ k₂;
-      lengths = agree .lengths .1;
-      inside = agree .keys;
+      lengths = agree .alike .lengths .1;
+      inside = agree .alike .keys;
     }
 
     start-twins : Twins n r s₁ k₁ s₂ k₂ (machineOf n r s₁ k₁) (machineOf n r s₂ k₂)
@@ -112,6 +113,8 @@ isolation n r s₁ k₁ s₂ k₂ agree =
       description = same .description;
       frames = λ frame i h small. same .storage .inside (frame * frameBytes + i) (in-frame (RunFrame n r s₁ k₁) frame i small h);
       keys = same .keys .inside;
+      lengths₁ = (sym (same .storage .outside₁ .kept), sym (same .keys .outside₁ .kept));
+      lengths₂ = (sym (same .storage .outside₂ .kept), sym (same .keys .outside₂ .kept));
       restOfStorage₁ = same .storage .outside₁ .rest;
       restOfKeys₁ = same .keys .outside₁ .rest;
       restOfStorage₂ = same .storage .outside₂ .rest;
@@ -163,6 +166,3 @@ module _ (r : List ℕ) (kind d : ℕ) (s₁ k₁ s₂ k₂ : List ℕ) (agree :
 
 pub isolation-of-translations : IsolationOfTranslations
 isolation-of-translations r a kind d s₁ k₁ s₂ k₂ agree = same-translate r kind d s₁ k₁ s₂ k₂ agree a
-
-pub isolation-of-checks : IsolationOfChecks
-isolation-of-checks r t same = ap check same

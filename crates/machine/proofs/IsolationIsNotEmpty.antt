@@ -12,7 +12,7 @@ use Rattle.machine.specs.declared.Numbers.{Numbers}
 use Rattle.machine.specs.declared.Reason.the-variants.{Instruction, Program}
 use Rattle.machine.specs.Words.{byteAt, wordAt, wordsAt, wordBytes, wordsBytes}
 use Rattle.machine.specs.Record.{guestOf, cpuOf, pswOf, pswBytes, withCpu, withResults}
-use Rattle.machine.specs.Refusals.{wrongLength, wrongVersion, wrongStorage, wrongKeys, wrongBudget, wrongTime, reservedUsed, runVerdict}
+use Rattle.machine.specs.Refusals.{wrongLength, wrongVersion, wrongStorage, wrongKeys, wrongBudget, wrongTime, used, reservedUsed, runVerdict}
 use Rattle.machine.specs.Entry.{entryGood, modeInstalled, extentFits, prefixFits}
 use Rattle.machine.specs.Psw.{notInstalled, malformed, wrap, withPsw, withTimer, withAddress, advanced}
 use Rattle.machine.specs.Time.{charged}
@@ -22,13 +22,13 @@ use Rattle.machine.specs.Frames.{InExtent, segmentPlace, pagePlace, page
 use Rattle.machine.specs.Addresses.{prefixed, realPage, settle, keyProtects, inPage, lowProtected, access, andThen, accesses, span, whenReached}
 use Rattle.machine.specs.Opcodes.{lengthOf, numberOf, find, opcodeOf}
 use Rattle.machine.specs.Interruptions.{withBytes, exception}
-use Rattle.machine.specs.Execute.{addressPart, indexedAddress, finish, storing, store, interceptInstruction, execute}
+use Rattle.machine.specs.Execute.{addressPart, operandAddress, indexedAddress, finish, storing, store, interceptInstruction, execute}
 use Rattle.machine.specs.Units.{intercepts, misaligned, decoded, halfword, reading, fetchThird, fetchSecond, instruction, unit}
-use Rattle.machine.specs.Run.{hostOf, unitFrom, behindOf, afterUnit, stepOf, step, counted, onward, run}
+use Rattle.machine.specs.Run.{hostOf, unitFrom, behindOf, afterUnit, afterInterception, stepOf, step, counted, onward, run}
 use Rattle.machine.specs.Answers.{results, endResults}
 use Rattle.machine.specs.Operations.{resultOf, machineOf, runAs, runOf}
-use Rattle.machine.specs.Isolation.{RunFrame}
-use Rattle.machine.specs.IsolationIsNotEmpty.{AgreeButApart, AgreeingHostsExist, EntriesMustBeApart}
+use Rattle.machine.specs.Isolation.{RunFrame, AgreeButApart}
+use Rattle.machine.specs.IsolationIsNotEmpty.{AgreeingHostsExist, EntriesMustBeApart}
 use Rattle.machine.proofs.Laws.{getD-sets-beside, SameBytes, word-of-bytes}
 
 -- A guest of one block from origin 0, with the PSW 00080000 80000008 and 1000 hex in general register 1. A program exception is code 8.
@@ -112,7 +112,7 @@ module _ (t : ℕ) (small : t < 2) where
       byte i h = sym (getD-set-other (storage₁ t) (place t) i 0x83 0 h)
 
 frame-0 : RunFrame (numbers 1) description (storage₁ 1) (keys₁ 1) 0
-unfolding description numbers storage₁ keys₁ runVerdict wrongLength wrongVersion wrongStorage wrongKeys wrongBudget wrongTime reservedUsed wordAt
+unfolding description numbers storage₁ keys₁ runVerdict wrongLength wrongVersion wrongStorage wrongKeys wrongBudget wrongTime used reservedUsed wordAt
     guestOf entryGood modeInstalled extentFits prefixFits
 frame-0 = record {
   accepted = refl;
@@ -136,6 +136,22 @@ frame-0 = record {
   };
 }
 
+-- With the tables in frame 1 the store changes a byte of frame 0, and an unassigned opcode follows it. With the tables in frame 0 the
+-- guest's second instruction comes from frame 1: unassigned on the first host, DIAGNOSE on the second.
+answers : ((runOf (numbers 1) description (storage₁ 1) (keys₁ 1)) .answer ≡ Ended (Intercepted (Program 1 1 0)) 1)
+    × (byteAt ((runOf (numbers 1) description (storage₁ 1) (keys₁ 1)) .storage) 66 ≡ 0x10)
+    × ((runOf (numbers 0) description (storage₁ 0) (keys₁ 0)) .answer ≡ Ended (Intercepted (Program 1 1 0)) 1)
+    × ((runOf (numbers 0) description (storage₂ 0) (keys₂ 0)) .answer
+    ≡ Ended (Intercepted (Instruction (record { ilc = 2; first = 0x8300; second = 0; third = 0 }))) 1)
+unfolding description numbers storage₁ keys₁ storage₂ keys₂ place runOf runAs runVerdict wrongLength wrongVersion wrongStorage wrongKeys wrongBudget
+    wrongTime used reservedUsed wordAt wordsAt wordsBytes guestOf cpuOf pswOf withCpu withResults entryGood modeInstalled extentFits prefixFits resultOf
+    machineOf endResults results run onward step stepOf unitFrom hostOf behindOf afterUnit afterInterception counted charged withTimer unit instruction halfword reading
+    fetchSecond fetchThird decoded intercepts misaligned notInstalled malformed wrap withPsw withAddress advanced access accesses andThen span
+    whenReached inPage realPage settle prefixed keyProtects lowProtected view cellOf backing hostPage inStorage hostEntry stored storeByte walk
+    walkSegment walkPage lengthOf numberOf find opcodeOf execute store storing finish addressPart operandAddress indexedAddress interceptInstruction withBytes
+    exception
+answers = (refl, refl, refl, refl)
+
 pub agreeing-hosts-exist : AgreeingHostsExist
 unfolding numbers place storage₁ storage₂ keys₁ keys₂
 agreeing-hosts-exist = (
@@ -147,38 +163,22 @@ agreeing-hosts-exist = (
   keys₂ 1,
   record {
     agree = record {
-      lengths = agree .lengths;
-      entries = agree .entries;
-      frames = agree .frames;
-      keys = agree .keys;
+      alike = hosts-agree 1 (omega arith);
       apart = λ at frame entry guest e. omega (arith, entry-in-frame-t 1 (omega arith) at (entry .describes), guest-frame-is-0 1 (omega arith) frame (guest .guest));
     };
-    accepted = frame-0 .accepted;
-    good = frame-0 .guest .good;
-    inside = 0;
-    guest = frame-0;
+    end = Intercepted (Program 1 1 0);
+    units = 1;
+    ended = answers .0;
+    some = omega arith;
+    stored = 66;
+    inside = frame-0;
+    changed = λ e. omega (arith, answers .1);
     place = place 1;
     outside = λ h. omega (arith, guest-frame-is-0 1 (omega arith) _ (h .guest));
     otherByte = λ e. omega arith;
     otherKey = λ e. omega arith;
   },
 )
-  where
-    agree : AgreeButApart (numbers 1) description (storage₁ 1) (keys₁ 1) (storage₂ 1) (keys₂ 1)
-    agree = hosts-agree 1 (omega arith)
-
--- With the tables in frame 0 the guest's second instruction comes from frame 1: unassigned on the first host, DIAGNOSE on the second.
-answers : ((runOf (numbers 0) description (storage₁ 0) (keys₁ 0)) .answer ≡ Ended (Intercepted (Program 1 1 0)) 1)
-    × ((runOf (numbers 0) description (storage₂ 0) (keys₂ 0)) .answer
-    ≡ Ended (Intercepted (Instruction (record { ilc = 2; first = 0x8300; second = 0; third = 0 }))) 1)
-unfolding description numbers storage₁ keys₁ storage₂ keys₂ place runOf runAs runVerdict wrongLength wrongVersion wrongStorage wrongKeys wrongBudget
-    wrongTime reservedUsed wordAt wordsAt wordsBytes guestOf cpuOf pswOf withCpu withResults entryGood modeInstalled extentFits prefixFits resultOf
-    machineOf endResults results run onward step stepOf unitFrom hostOf behindOf afterUnit counted charged withTimer unit instruction halfword reading
-    fetchSecond fetchThird decoded intercepts misaligned notInstalled malformed wrap withPsw withAddress advanced access accesses andThen span
-    whenReached inPage realPage settle prefixed keyProtects lowProtected view cellOf backing hostPage inStorage hostEntry stored storeByte walk
-    walkSegment walkPage lengthOf numberOf find opcodeOf execute store storing finish addressPart indexedAddress interceptInstruction withBytes
-    exception
-answers = (refl, refl)
 
 pub entries-must-be-apart : EntriesMustBeApart
 entries-must-be-apart = (
@@ -189,5 +189,5 @@ entries-must-be-apart = (
   storage₂ 0,
   keys₂ 0,
   hosts-agree 0 (omega arith),
-  λ same. let z : _≡_ {A = ℕ} 0 1 = cc (answers .0, answers .1) in omega arith,
+  λ same. let z : _≡_ {A = ℕ} 0 1 = cc (answers .2, answers .3) in omega arith,
 )

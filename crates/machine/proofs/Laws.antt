@@ -12,7 +12,7 @@ use Rattle.machine.specs.declared.Cpu.{Cpu}
 use Rattle.machine.specs.declared.End.{End}
 use Rattle.machine.specs.declared.End.the-variants.{Intercepted, HostFault, BudgetUsed}
 use Rattle.machine.specs.declared.Reason.the-variants.{Instruction, Program, ExternalRequest, External, IoRequest, Wait, Validity, Stop, Operation}
-use Rattle.machine.specs.Answers.{results, reasonResults, endResults}
+use Rattle.machine.specs.Answers.{results, resultsWith, reasonResults, endResults}
 use Rattle.machine.specs.Words.{bits, byteAt, halfAt, wordAt, doubleAt, doubleBytes, wordsBytes}
 use Rattle.machine.specs.Record.{pswAt, timerAt, resultsAt, controlAt, generalAt, pswBytes, guestOf, withCpu, withResults}
 
@@ -202,7 +202,7 @@ guest-of-withResults vs r =
 
 -- every end of a run has fourteen bytes of results
 pub length-endResults : (e : End) → length (endResults e) ≡ 14
-unfolding endResults reasonResults results
+unfolding endResults reasonResults resultsWith results
 length-endResults (Intercepted (Instruction t)) = refl
 length-endResults (Intercepted (Program code ilc address)) = refl
 length-endResults (Intercepted ExternalRequest) = refl

@@ -13,22 +13,9 @@ use lib.Seq.{sets, length-sets, set-comm, set-set}
 use borrow.Author.Tests.{eqb-true, eqb-false}
 use Rattle.machine.specs.declared.Cpu.{Cpu}
 use Rattle.machine.specs.Words.{byteAt, wordAt, doubleAt, wordsAt, wordBytes, doubleBytes, wordsBytes}
-use Rattle.machine.specs.Record.{pswAt, timerAt, controlAt, generalAt, pswBytes, pswOf, cpuOf, withCpu}
+use Rattle.machine.specs.Record.{pswAt, timerAt, controlAt, generalAt, pswBytes, pswOf, cpuOf, withCpu, Sixteen, Bounded}
 use Rattle.machine.proofs.Laws.{getD-sets-beside, set-sets, sets-comm, sets-sets, timer-of-withCpu}
 use Rattle.machine.proofs.Words.{length-wordsBytes, wordBytes-mod, word-small, words-of-bytes, words-of-sets, sets-words-same}
-
--- sixteen words of 32 bits
-pub record Sixteen (ws : List ℕ) : Type 0 where
-  pub long : length ws ≡ 16
-  pub small : (i : ℕ) → getD ws i 0 < 2 ^ 32
-
--- each field within the width that the record has for it
-pub record Bounded (c : Cpu) : Type 0 where
-  pub left : c .psw .left < 2 ^ 32
-  pub right : c .psw .right < 2 ^ 32
-  pub timer : c .timer < 2 ^ 64
-  pub control : Sixteen (c .control .words)
-  pub general : Sixteen (c .general .words)
 
 pub cpu-of-withCpu : (c : Cpu) (r : List ℕ) → length r ≡ 200 → Bounded c → cpuOf (withCpu c r) ≡ c
 unfolding cpuOf pswOf withCpu wordsAt wordsBytes

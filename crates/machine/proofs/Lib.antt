@@ -3,12 +3,14 @@ pub mod Tests
 pub mod Laws
 pub mod Verdicts
 pub mod Runs
+pub mod Entry
 pub mod Examples
 pub mod Kept
 pub mod Accepted
 pub mod Resumption
 pub mod Timer
 pub mod Slips
+pub mod Backed
 pub mod FrameBytes
 pub mod Backing
 pub mod Effects

@@ -41,7 +41,7 @@ use Rattle.machine.proofs.Runs.{runOf-cases}
 use Rattle.machine.proofs.Laws.{double-of-bytes, length-withCpu, length-withResults, timer-of-withCpu, byte-of-withResults, length-endResults}
 
 -- what holds of both arms of a test holds of the test
-on-either-arm : {A : Type 0} (P : A → Type 0) (b : Bool) {u v : A} → P u → P v → P (cond b u v)
+pub on-either-arm : {A : Type 0} (P : A → Type 0) (b : Bool) {u v : A} → P u → P v → P (cond b u v)
 on-either-arm P true p q = p
 on-either-arm P false p q = q
 

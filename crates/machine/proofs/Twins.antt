@@ -11,7 +11,8 @@ use Rattle.machine.specs.declared.Verdict.the-variants.{Accepted}
 use Rattle.machine.specs.declared.Walk.{Walk}
 use Rattle.machine.specs.declared.Walk.the-variants.{Page}
 use Rattle.machine.specs.Record.{guestOf, cpuOf, withCpu}
-use Rattle.machine.specs.Refusals.{frameBytes, runVerdict}
+use Rattle.machine.specs.Sizes.{frameBytes}
+use Rattle.machine.specs.Refusals.{runVerdict}
 use Rattle.machine.specs.Entry.{entryGood}
 use Rattle.machine.specs.Frames.{segmentPlace, pagePlace, SegmentInReach, PageInReach, Describes}
 use Rattle.machine.specs.Time.{clockAfter}
@@ -41,7 +42,7 @@ module _ (n : Numbers) (r s₁ k₁ s₂ k₂ : List ℕ) where
 
   module _ (agree : Agree n r s₁ k₁ s₂ k₂) (accepted : runVerdict n r s₁ k₁ ≡ Accepted) where
     pub same-start : SameEntries (guestOf r) (n .designation) s₁ s₂
-    same-start = record { lengths = agree .lengths .0; entries = λ at i h. agree .entries at i (record { accepted = accepted; describes = h }) }
+    same-start = record { lengths = agree .alike .lengths .0; entries = λ at i h. agree .alike .entries at i (record { accepted = accepted; describes = h }) }
 
     -- no entry that describes the extent lies in a guest frame
     entry-outside : (at i : ℕ) → Describes (guestOf r) (n .designation) s₁ at → at ≤ i → i < at + 4 → In (RunFrame n r s₁ k₁) i → ⊥

@@ -1,20 +1,22 @@
 -- Laws of the run's verdict.
 -- Assumes nothing.
-use Prim.Native.Nat.{ℕ, _≤_}
+use Prim.Native.Nat.{ℕ, zero, suc, _+_, _≤_, _<_}
 use native.Mathlib.Omega.{arith}
 use mathlib.Core.Path.{_≡_, refl}
-use mathlib.Core.Bool.{Bool, true, false, not, _&&_}
+use mathlib.Core.Bool.{Bool, true, false, not, _&&_, _||_}
 use mathlib.Core.List.{List}
-use lib.Dec.{eqb}
+use mathlib.Core.Logic.{_⊎_, inl, inr, ⊎-elim}
+use lib.Dec.{eqb, lit<, lit≤}
 use lib.ListN.{length}
-use borrow.Author.Tests.{le-ltb, ltb-false, eqb-true, not-false}
+use borrow.Author.Tests.{eq-eqb, le-ltb, ltb-false, eqb-true, eqb-false, not-false}
 use Rattle.machine.specs.declared.Numbers.{Numbers}
 use Rattle.machine.specs.declared.Verdict.{Verdict}
 use Rattle.machine.specs.declared.Verdict.the-variants.{Accepted}
+use Rattle.machine.specs.Words.{byteAt, halfAt, wordAt}
 use Rattle.machine.specs.Record.{recordLength}
-use Rattle.machine.specs.Refusals.{mostUnits, framesOf, wrongLength, wrongVersion, wrongStorage, wrongKeys, wrongBudget, wrongTime, reservedUsed, refuse, runVerdict}
+use Rattle.machine.specs.Refusals.{mostUnits, framesOf, wrongLength, wrongVersion, wrongStorage, wrongKeys, wrongBudget, wrongTime, used, reservedUsed, refuse, runVerdict}
 use Rattle.machine.specs.Theorems.{withBudget}
-use Rattle.machine.proofs.Laws.{SameBytes, word-of-bytes}
+use Rattle.machine.proofs.Laws.{SameBytes}
 
 -- of accepted input every test failed
 pub accepted-test : (number : ℕ) (test : Bool) (later : Verdict) → refuse number test later ≡ Accepted → (test ≡ false) × (later ≡ Accepted)
@@ -49,6 +51,48 @@ module _ (n : Numbers) (r storage keys : List ℕ) (accepted : runVerdict n r st
       let fifth = accepted-test 4 (wrongKeys storage keys) _ fourth .1 in
       ltb-false mostUnits (n .budget) (accepted-test 5 (wrongBudget n) _ fifth .0)
 
+-- bytes that are all zero, or not
+
+pub used-of-same : (r t : List ℕ) (a n : ℕ) → SameBytes r t a (a + n) → used r a n ≡ used t a n
+unfolding used
+used-of-same r t a zero same = refl
+used-of-same r t a (suc n) same = rw (same a (omega arith) (omega arith), used-of-same r t (a + 1) n (λ i l h. same i (omega arith) (omega arith)))
+
+pub unused : (r : List ℕ) (a n : ℕ) → ((i : ℕ) → a ≤ i → i < a + n → byteAt r i ≡ 0) → used r a n ≡ false
+unfolding used
+unused r a zero none = refl
+unused r a (suc n) none = rw (eq-eqb (byteAt r a) 0 (none a (omega arith) (omega arith)), unused r (a + 1) n (λ i l h. none i (omega arith) (omega arith)))
+
+pub used-or-zero : (r : List ℕ) (a n : ℕ) → (used r a n ≡ true) ⊎ ((i : ℕ) → a ≤ i → i < a + n → byteAt r i ≡ 0)
+unfolding used
+used-or-zero r a zero = inr (λ i l h. absurd (omega arith))
+used-or-zero r a (suc n) = by-byte (eqb (byteAt r a) 0) refl (used-or-zero r (a + 1) n)
+  where
+    here-or-later : byteAt r a ≡ 0 → ((i : ℕ) → a + 1 ≤ i → i < a + 1 + n → byteAt r i ≡ 0)
+        → (i : ℕ) (b : Bool) → eqb i a ≡ b → a ≤ i → i < a + suc n → byteAt r i ≡ 0
+    here-or-later here later i true e l h = rw (eqb-true i a e) here
+    here-or-later here later i false e l h = later i (omega (arith, eqb-false i a e)) (omega arith)
+
+    by-byte : (b : Bool) → eqb (byteAt r a) 0 ≡ b → (used r (a + 1) n ≡ true) ⊎ ((i : ℕ) → a + 1 ≤ i → i < a + 1 + n → byteAt r i ≡ 0)
+        → ((not b || used r (a + 1) n) ≡ true) ⊎ ((i : ℕ) → a ≤ i → i < a + suc n → byteAt r i ≡ 0)
+    by-byte false e later = inl refl
+    by-byte true e (inl more) = inl more
+    by-byte true e (inr none) = inr λ i. here-or-later (eqb-true (byteAt r a) 0 e) none i (eqb i a) refl
+
+-- refusal 7 by a word and a halfword
+pub reserved-by-words : (r : List ℕ) → reservedUsed r ≡ not (eqb (wordAt r 66 + halfAt r 70) 0)
+unfolding reservedUsed used wordAt
+reserved-by-words r = by-sum (eqb (wordAt r 66 + halfAt r 70) 0) refl
+  where
+    by-sum : (b : Bool) → eqb (wordAt r 66 + halfAt r 70) 0 ≡ b → used r 66 6 ≡ not b
+    by-sum true e =
+        let none : wordAt r 66 + halfAt r 70 ≡ 0 = eqb-true _ 0 e in
+        rw (eq-eqb (byteAt r 66) 0 (omega arith), eq-eqb (byteAt r 67) 0 (omega arith), eq-eqb (byteAt r 68) 0 (omega arith), eq-eqb (byteAt r 69) 0 (omega arith), eq-eqb (byteAt r 70) 0 (omega arith), eq-eqb (byteAt r 71) 0 (omega arith))
+    by-sum false e =
+        ⊎-elim (λ some. some)
+        (λ none. absurd (eqb-false (wordAt r 66 + halfAt r 70) 0 e (omega (arith, none 66 (lit≤ tt) (lit< tt), none 67 (lit≤ tt) (lit< tt), none 68 (lit≤ tt) (lit< tt), none 69 (lit≤ tt) (lit< tt), none 70 (lit≤ tt) (lit< tt), none 71 (lit≤ tt) (lit< tt)))))
+        (used-or-zero r 66 6)
+
 -- the verdict goes by lengths, by the bytes of the record that no rule names, by the time, and by the budget's limit
 pub verdict-of-same : (n k : Numbers) (r t s s′ x x′ : List ℕ) → length r ≡ length t → SameBytes r t 0 3 → SameBytes r t 66 72
     → length s ≡ length s′ → length x ≡ length x′ → n .time ≡ k .time → n .budget ≤ mostUnits → k .budget ≤ mostUnits
@@ -65,9 +109,7 @@ verdict-of-same n k r t s s′ x x′ long low reserved whole eachKey time small
       low 0 (omega arith) (omega arith),
       low 1 (omega arith) (omega arith),
       low 2 (omega arith) (omega arith),
-      word-of-bytes r t 66 (λ i l h. reserved i l (omega arith)),
-      reserved 70 (omega arith) (omega arith),
-      reserved 71 (omega arith) (omega arith),
+      used-of-same r t 66 6 reserved,
     )
 
 -- the verdict does not depend on a budget within the limit

@@ -11,7 +11,7 @@ use Rattle.machine.specs.declared.TableEntry.the-variants.{Word, Unread}
 use Rattle.machine.specs.declared.Walk.{Walk}
 use Rattle.machine.specs.declared.Walk.the-variants.{Page, Failed}
 use Rattle.machine.specs.Words.{bits, bit, wordAt}
-use Rattle.machine.specs.Entry.{pageBytes}
+use Rattle.machine.specs.Sizes.{pageBytes}
 use Rattle.machine.specs.Psw.{datOn, accessKey, wrap, control}
 use Rattle.machine.specs.Failures.{protection, translationSpecification, hostFault, exceptionOf, walkException}
 use Rattle.machine.specs.Walk.{walk}

@@ -40,17 +40,20 @@ unfoldable pub results : ℕ → ℕ → ℕ → Text → List ℕ
 results code interruption address t =
     code ∷ t .ilc ∷ halfBytes interruption ++ wordBytes address ++ halfBytes (t .first) ++ halfBytes (t .second) ++ halfBytes (t .third)
 
--- the text that byte 53 and bytes 60-65 take from
+-- the results of an interception, its code given; byte 53 and bytes 60-65 take from the text
+unfoldable pub resultsWith : ℕ → Reason → List ℕ
+resultsWith code (Instruction t) = results code 0 0 t
+resultsWith code (Program interruption ilc address) = results code interruption address (record { ilc = ilc; first = 0; second = 0; third = 0 })
+resultsWith code ExternalRequest = results code 0 0 noText
+resultsWith code (External interruption) = results code interruption 0 noText
+resultsWith code IoRequest = results code 0 0 noText
+resultsWith code Wait = results code 0 0 noText
+resultsWith code Validity = results code 0 0 noText
+resultsWith code Stop = results code 0 0 noText
+resultsWith code (Operation t) = results code 0 0 t
+
 unfoldable pub reasonResults : Reason → List ℕ
-reasonResults (Instruction t) = results 4 0 0 t
-reasonResults (Program code ilc address) = results 8 code address (record { ilc = ilc; first = 0; second = 0; third = 0 })
-reasonResults ExternalRequest = results 16 0 0 noText
-reasonResults (External code) = results 20 code 0 noText
-reasonResults IoRequest = results 24 0 0 noText
-reasonResults Wait = results 28 0 0 noText
-reasonResults Validity = results 32 0 0 noText
-reasonResults Stop = results 40 0 0 noText
-reasonResults (Operation t) = results 44 0 0 t
+reasonResults r = resultsWith (reasonCode r) r
 
 -- a host fault and a budget end leave all fourteen zero
 unfoldable pub endResults : End → List ℕ

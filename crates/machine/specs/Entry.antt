@@ -3,16 +3,10 @@ use Prim.Native.Nat.{ℕ, _+_, _*_}
 use mathlib.Core.Bool.{Bool, not, _&&_}
 use lib.Dec.{eqb, leb, ltb}
 use Rattle.machine.specs.declared.Guest.{Guest}
+use Rattle.machine.specs.Sizes.{pageBytes, blockBytes}
 use Rattle.machine.specs.Words.{bits, bit}
 
--- origin and extent count blocks of 64 KiB
-abbrev pub blockBytes : ℕ
-blockBytes = 65536
-
--- prefix and page numbers count 4 KiB
-abbrev pub pageBytes : ℕ
-pageBytes = 4096
-
+-- the extent counts blocks
 abbrev pub extentBytes : Guest → ℕ
 extentBytes g = g .extent * blockBytes
 
@@ -24,7 +18,7 @@ modeInstalled g = eqb (bits 8 4 5 (g .mode)) 2 && not (bit 8 6 (g .mode))
 unfoldable pub extentFits : Guest → Bool
 extentFits g = leb (g .origin) 32767 && ltb 0 (g .extent) && leb (g .origin + g .extent) 32768
 
--- the prefixed 4 KiB wholly below the extent
+-- the prefixed page wholly below the extent
 unfoldable pub prefixFits : Guest → Bool
 prefixFits g = leb (g .prefix * pageBytes + pageBytes) (extentBytes g)
 

@@ -205,6 +205,7 @@ storeTimer x = storing x (operandAddress x) (doubleBytes (x .cpu .timer)) (next 
 unfoldable pub interceptInstruction : Progress → Outcome
 interceptInstruction x = intercepted (Instruction (x .text)) (next x (x .cpu))
 
+-- the effect of each class; that of an unassigned opcode comes before all other tests (`Units.decoded`)
 unfoldable pub execute : Class → Progress → Outcome
 execute Lr x = loadRegister x
 execute Ar x = add x

@@ -3,7 +3,7 @@ use Prim.Native.Nat.{ℕ, _*_, _/_}
 use mathlib.Core.Bool.{Bool, true, false, cond, _||_}
 use lib.Dec.{eqb}
 use Rattle.machine.specs.declared.Failure.{Failure}
-use Rattle.machine.specs.Entry.{pageBytes}
+use Rattle.machine.specs.Sizes.{pageBytes}
 
 abbrev pub operation : ℕ
 operation = 1

@@ -6,19 +6,20 @@ use mathlib.Core.List.{List}
 use mathlib.Core.Logic.{_⊎_}
 use lib.ListN.{length}
 use Rattle.machine.specs.declared.Guest.{Guest}
+use Rattle.machine.specs.Sizes.{pageBytes, blockPages}
 use Rattle.machine.specs.Words.{wordAt}
 use Rattle.machine.specs.Refusals.{framesOf}
 use Rattle.machine.specs.Entry.{entryGood}
-use Rattle.machine.specs.Walk.{segmentEntryAt, pastSegmentTable, segmentInvalid, segmentMalformed, pageEntryAt, pastPageTable, frameOf, pageInvalid, pageMalformed}
+use Rattle.machine.specs.Walk.{segmentIndex, pageIndex, segmentEntryAt, pastSegmentTable, segmentInvalid, segmentMalformed, pageEntryAt, pastPageTable, frameOf, pageInvalid, pageMalformed}
 
 -- a host page, by its number, is one of the extent's
 pub record InExtent (g : Guest) (page : ℕ) : Type 0 where
-  pub low : g .origin * 16 ≤ page
-  pub high : page < (g .origin + g .extent) * 16
+  pub low : g .origin * blockPages ≤ page
+  pub high : page < (g .origin + g .extent) * blockPages
 
 -- where the segment entry of a host page stands
 abbrev pub segmentPlace : ℕ → ℕ → ℕ
-segmentPlace designation page = segmentEntryAt designation (page / 256)
+segmentPlace designation page = segmentEntryAt designation (segmentIndex (page * pageBytes))
 
 module _ (designation : ℕ) (storage : List ℕ) where
   -- the segment entry of a host page
@@ -27,14 +28,14 @@ module _ (designation : ℕ) (storage : List ℕ) where
 
   -- where the page entry of a host page stands, and the entry
   abbrev pub pagePlace : ℕ → ℕ
-  pagePlace page = pageEntryAt (segmentOf page) (page % 256)
+  pagePlace page = pageEntryAt (segmentOf page) (pageIndex (page * pageBytes))
 
   abbrev pub pageOf : ℕ → ℕ
   pageOf page = wordAt storage (pagePlace page)
 
   -- "in reach", of a segment entry: the table length and the storage allow it
   pub record SegmentInReach (page : ℕ) : Type 0 where
-    pub inTable : pastSegmentTable designation (page / 256) ≡ false
+    pub inTable : pastSegmentTable designation (segmentIndex (page * pageBytes)) ≡ false
     pub inStorage : segmentPlace designation page + 4 ≤ length storage
 
   -- "in reach", of a page entry: a valid well-formed segment entry, the table length and the storage allow it
@@ -42,7 +43,7 @@ module _ (designation : ℕ) (storage : List ℕ) where
     pub segment : SegmentInReach page
     pub valid : segmentInvalid (segmentOf page) ≡ false
     pub formed : segmentMalformed (segmentOf page) ≡ false
-    pub inTable : pastPageTable (segmentOf page) (page % 256) ≡ false
+    pub inTable : pastPageTable (segmentOf page) (pageIndex (page * pageBytes)) ≡ false
     pub inStorage : pagePlace page + 4 ≤ length storage
 
   -- "valid": the page's entry is in reach and well formed, with bit 21 zero

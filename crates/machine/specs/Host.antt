@@ -12,8 +12,9 @@ use Rattle.machine.specs.declared.TableEntry.the-variants.{Word, Unread}
 use Rattle.machine.specs.declared.Walk.{Walk}
 use Rattle.machine.specs.declared.Walk.the-variants.{Page, Failed}
 use Rattle.machine.specs.Words.{bit, byteAt, wordAt}
-use Rattle.machine.specs.Refusals.{frameBytes, framesOf}
-use Rattle.machine.specs.Entry.{blockBytes, extentBytes}
+use Rattle.machine.specs.Sizes.{frameBytes, blockBytes}
+use Rattle.machine.specs.Refusals.{framesOf}
+use Rattle.machine.specs.Entry.{extentBytes}
 use Rattle.machine.specs.Failures.{addressing, hostFault, exceptionOf}
 use Rattle.machine.specs.Walk.{walk}
 

@@ -1,4 +1,4 @@
--- Demand 3 for translate and check, which change nothing: the answers alone.
+-- Demand 3 for translate, which changes nothing: the answer alone. Check is given no host.
 use Prim.Native.Nat.{ℕ, _+_, _*_, _≤_, _<_}
 use mathlib.Core.Path.{_≡_}
 use mathlib.Core.List.{List}
@@ -6,10 +6,11 @@ use lib.ListN.{length, getD}
 use Rattle.machine.specs.declared.Verdict.the-variants.{Accepted}
 use Rattle.machine.specs.Words.{byteAt}
 use Rattle.machine.specs.Record.{guestOf}
-use Rattle.machine.specs.Refusals.{frameBytes, translateVerdict}
+use Rattle.machine.specs.Sizes.{frameBytes}
+use Rattle.machine.specs.Refusals.{translateVerdict}
 use Rattle.machine.specs.Host.{host}
 use Rattle.machine.specs.Frames.{Describes, GuestFrame}
-use Rattle.machine.specs.Operations.{check, translate}
+use Rattle.machine.specs.Operations.{translate}
 
 -- Two translations with one record, access kind and host designation, on storages and keys of the same lengths, that agree on the entries
 -- that describe the extent, the guest frames and the keys of those frames. Nothing is stored, so an entry may lie in a guest frame.
@@ -24,7 +25,3 @@ pub record TranslationsAgree (r : List ℕ) (kind d : ℕ) (s₁ k₁ s₂ k₂ 
 abbrev pub IsolationOfTranslations : Type 0
 IsolationOfTranslations = (r : List ℕ) (a kind d : ℕ) (s₁ k₁ s₂ k₂ : List ℕ) → TranslationsAgree r kind d s₁ k₁ s₂ k₂
     → translate r (host d s₁ k₁) a kind ≡ translate r (host d s₂ k₂) a kind
-
--- Check is given the record alone.
-abbrev pub IsolationOfChecks : Type 0
-IsolationOfChecks = (r t : List ℕ) → r ≡ t → check r ≡ check t

@@ -1,4 +1,5 @@
 -- The definition of document 01. One module for each part; docs/ARCHITECTURE.md has the table of headings and names.
+pub mod Sizes
 pub mod Words
 pub mod Record
 pub mod Refusals

@@ -1,6 +1,8 @@
 -- Document 01, "The record, 200 bytes, big-endian".
-use Prim.Native.Nat.{ℕ, _+_}
+use Prim.Native.Nat.{ℕ, _+_, _^_, _<_}
+use mathlib.Core.Path.{_≡_}
 use mathlib.Core.List.{List, _++_}
+use lib.ListN.{length, getD}
 use lib.Seq.{sets}
 use Rattle.machine.specs.declared.Cpu.{Cpu}
 use Rattle.machine.specs.declared.Guest.{Guest}
@@ -78,3 +80,16 @@ withCpu c r =
 -- the record with these bytes, fourteen of them, as bytes 52-65
 unfoldable pub withResults : List ℕ → List ℕ → List ℕ
 withResults results r = sets r resultsAt results
+
+-- sixteen words of 32 bits
+pub record Sixteen (ws : List ℕ) : Type 0 where
+  pub long : length ws ≡ 16
+  pub small : (i : ℕ) → getD ws i 0 < 2 ^ 32
+
+-- each field within the width that the record has for it
+pub record Bounded (c : Cpu) : Type 0 where
+  pub left : c .psw .left < 2 ^ 32
+  pub right : c .psw .right < 2 ^ 32
+  pub timer : c .timer < 2 ^ 64
+  pub control : Sixteen (c .control .words)
+  pub general : Sixteen (c .general .words)

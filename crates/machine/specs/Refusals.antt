@@ -1,17 +1,15 @@
 -- Document 01, "The record", the table of refusals. Refusal 9 is the case file's.
-use Prim.Native.Nat.{ℕ, _+_, _*_, _/_, _%_}
-use mathlib.Core.Bool.{Bool, cond, not, _&&_, _||_}
+use Prim.Native.Nat.{ℕ, zero, suc, _+_, _*_, _/_, _%_}
+use mathlib.Core.Bool.{Bool, false, cond, not, _&&_, _||_}
 use mathlib.Core.List.{List}
 use lib.Dec.{eqb, ltb}
 use lib.ListN.{length}
 use Rattle.machine.specs.declared.Numbers.{Numbers}
 use Rattle.machine.specs.declared.Verdict.{Verdict}
 use Rattle.machine.specs.declared.Verdict.the-variants.{Accepted, Refused}
-use Rattle.machine.specs.Words.{byteAt, halfAt, wordAt}
+use Rattle.machine.specs.Sizes.{frameBytes}
+use Rattle.machine.specs.Words.{byteAt, halfAt}
 use Rattle.machine.specs.Record.{recordLength, recordVersion}
-
-abbrev pub frameBytes : ℕ
-frameBytes = 4096
 
 abbrev pub mostFrames : ℕ
 mostFrames = 4096
@@ -50,9 +48,14 @@ wrongBudget n = ltb mostUnits (n .budget)
 unfoldable pub wrongTime : Numbers → Bool
 wrongTime n = ltb mostTime (n .time)
 
+-- one of the `n` bytes from `a` on is not zero
+unfoldable pub used : List ℕ → ℕ → ℕ → Bool
+used r a zero = false
+used r a (suc n) = not (eqb (byteAt r a) 0) || used r (a + 1) n
+
 -- 7: one of bytes 66-71 is not zero
 unfoldable pub reservedUsed : List ℕ → Bool
-reservedUsed r = not (eqb (wordAt r 66 + halfAt r 70) 0)
+reservedUsed r = used r 66 6
 
 -- 8: access kind is not 0 (operand fetch), 1 (store) or 2 (instruction fetch)
 unfoldable pub wrongAccess : ℕ → Bool

@@ -1,8 +1,8 @@
 -- What is proved of the definition, beside the worked examples and demand 3. Each statement is a type here; its proof is in proofs/.
 use Prim.Native.Nat.{ℕ, _+_, _-_, _*_, _%_, _^_, _≤_, _<_}
 use mathlib.Core.Path.{_≡_}
-use mathlib.Core.Bool.{true}
-use mathlib.Core.List.{List}
+use mathlib.Core.Bool.{Bool, true}
+use mathlib.Core.List.{List, [], _∷_}
 use mathlib.Core.Logic.{_⊎_}
 use lib.ListN.{length}
 use Rattle.machine.specs.declared.Answer.{Answer}
@@ -16,22 +16,24 @@ use Rattle.machine.specs.declared.Guest.{Guest}
 use Rattle.machine.specs.declared.Numbers.{Numbers}
 use Rattle.machine.specs.declared.Reason.the-variants.{Stop}
 use Rattle.machine.specs.declared.Verdict.the-variants.{Accepted}
-use Rattle.machine.specs.declared.Walk.the-variants.{Failed}
+use Rattle.machine.specs.declared.Walk.{Walk}
+use Rattle.machine.specs.declared.Walk.the-variants.{Page, Failed}
 use Rattle.machine.specs.Words.{byteAt, halfAt, doubleAt}
 use Rattle.machine.specs.Record.{recordLength, recordVersion, pswAt, timerAt, resultsAt, controlAt, guestOf, cpuOf}
-use Rattle.machine.specs.Refusals.{frameBytes, mostFrames, mostUnits, mostTime, checkVerdict, translateVerdict, runVerdict}
+use Rattle.machine.specs.Sizes.{frameBytes}
+use Rattle.machine.specs.Refusals.{mostFrames, mostUnits, mostTime, checkVerdict, translateVerdict, runVerdict}
 use Rattle.machine.specs.Entry.{extentBytes, entryGood}
 use Rattle.machine.specs.Psw.{wrap}
 use Rattle.machine.specs.Time.{guestClock, comparatorDue}
 use Rattle.machine.specs.Failures.{addressing, exceptionOf}
-use Rattle.machine.specs.Host.{Host, host, Located, hostVirtual, hostPage, backing, view}
+use Rattle.machine.specs.Host.{Host, host, Located, places, hostVirtual, hostPage, backing, view}
 use Rattle.machine.specs.Addresses.{guestEntry, denied, access, all}
 use Rattle.machine.specs.Opcodes.{opcodeOf}
-use Rattle.machine.specs.Outcomes.{Progress}
+use Rattle.machine.specs.Outcomes.{Effects, completed, Progress}
 use Rattle.machine.specs.Interruptions.{exception}
 use Rattle.machine.specs.Execute.{storing}
 use Rattle.machine.specs.Units.{halfword, halfOf, started, stopRequested}
-use Rattle.machine.specs.Run.{Machine, ends, step, hostOf, run}
+use Rattle.machine.specs.Run.{Machine, ends, step, hostOf, unitFrom, behindOf, run}
 use Rattle.machine.specs.Operations.{Result, machineOf, runOf}
 
 -- the numbers with another budget
@@ -132,6 +134,27 @@ HostFaultUndoesItsUnit = (n : Numbers) (r storage keys : List ℕ) (f : Failure)
     → ((runOf n r storage keys) .description ≡ (runOf (withBudget n units) r storage keys) .description)
     × ((runOf n r storage keys) .storage ≡ (runOf (withBudget n units) r storage keys) .storage)
     × ((runOf n r storage keys) .keys ≡ (runOf (withBudget n units) r storage keys) .keys)
+
+-- each number of a list
+pub data Each (P : ℕ → Type 0) : List ℕ → Type 0 where
+  none : Each P []
+  more : {a : ℕ} {l : List ℕ} → P a → Each P l → Each P (a ∷ l)
+
+-- a host page is behind a guest absolute address
+pub record HasPage (behind : ℕ → Walk) (a : ℕ) : Type 0 where
+  pub frame : ℕ
+  pub protected : Bool
+  pub page : behind a ≡ Page frame protected
+
+-- no store and no mark is dropped: a host page is behind each place that a completed unit fetched from or stored into
+abbrev pub EffectsAreBacked : Type 0
+EffectsAreBacked = (n : Numbers) (m : Machine) (c : Cpu) (e : Effects) → unitFrom n m ≡ completed c e
+    → Each (HasPage (behindOf n m)) (e .fetched) × Each (HasPage (behindOf n m)) (places (e .stores))
+
+-- the host fault of a run is the host's, and no exception of the guest
+abbrev pub FaultsAreTheHosts : Type 0
+FaultsAreTheHosts = (n : Numbers) (r storage keys : List ℕ) (f : Failure) (units : ℕ)
+    → (runOf n r storage keys) .answer ≡ Ended (HostFault f) units → f .host ≡ true
 
 -- the unit count never exceeds the budget
 abbrev pub UnitsWithinBudget : Type 0

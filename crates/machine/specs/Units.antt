@@ -4,7 +4,7 @@ use mathlib.Core.Bool.{Bool, false, cond, not, _&&_, _||_}
 use mathlib.Core.List.{List, [], _++_}
 use lib.Dec.{eqb, ltb}
 use Rattle.machine.specs.declared.Class.{Class}
-use Rattle.machine.specs.declared.Class.the-variants.{Lr, Ar, Sr, Bcr, Svc, La, Bc, St, L, Lpsw, Stctl, Lctl, Stck, Spt, Stpt, Mandatory, Unassigned}
+use Rattle.machine.specs.declared.Class.the-variants.{Svc, Lpsw, Lctl, Unassigned}
 use Rattle.machine.specs.declared.Cpu.{Cpu}
 use Rattle.machine.specs.declared.Guest.{Guest}
 use Rattle.machine.specs.declared.Opcode.{Opcode}
@@ -13,10 +13,10 @@ use Rattle.machine.specs.declared.Text.{Text}
 use Rattle.machine.specs.Words.{bit, halfAt}
 use Rattle.machine.specs.Psw.{ioEnabled, externalEnabled, waiting, problemState, instructionAddress, notInstalled, malformed, control}
 use Rattle.machine.specs.Time.{comparatorDue, timerDue}
-use Rattle.machine.specs.Failures.{privilegedOperation, specification, exceptionOf}
+use Rattle.machine.specs.Failures.{operation, privilegedOperation, specification, exceptionOf}
 use Rattle.machine.specs.Host.{Cell, Located, places}
 use Rattle.machine.specs.Addresses.{Accesses, access, accesses, span, whenReached}
-use Rattle.machine.specs.Opcodes.{lengthOf, opcodeOf}
+use Rattle.machine.specs.Opcodes.{sameClass, opcodeOf}
 use Rattle.machine.specs.Outcomes.{Outcome, intercepted, Progress}
 use Rattle.machine.specs.Interruptions.{bytesOf, exception}
 use Rattle.machine.specs.Execute.{r1, immediate, rangeCount, operandAddress, interceptInstruction, execute}
@@ -34,53 +34,23 @@ unfoldable pub interceptsLctl : Guest → ℕ → ℕ → Bool
 interceptsLctl g i zero = false
 interceptsLctl g i (suc n) = bit 16 i (g .lctl) || interceptsLctl g ((i + 1) % 16) n
 
--- the interception controls ask for code 4
+-- the interception controls ask for code 4: of SVC, LPSW and LCTL alone
 unfoldable pub intercepts : Class → Progress → Bool
-intercepts Lr x = false
-intercepts Ar x = false
-intercepts Sr x = false
-intercepts Bcr x = false
-intercepts Svc x = interceptsSvc (x .guest) (immediate x)
-intercepts La x = false
-intercepts Bc x = false
-intercepts St x = false
-intercepts L x = false
-intercepts Lpsw x = bit 8 2 (x .guest .interceptions)
-intercepts Stctl x = false
-intercepts Lctl x = interceptsLctl (x .guest) (r1 x) (rangeCount x)
-intercepts Stck x = false
-intercepts Spt x = false
-intercepts Stpt x = false
-intercepts Mandatory x = false
-intercepts Unassigned x = false
+intercepts k x =
+    cond (sameClass k Svc) (interceptsSvc (x .guest) (immediate x))
+    (cond (sameClass k Lpsw) (bit 8 2 (x .guest .interceptions))
+    (cond (sameClass k Lctl) (interceptsLctl (x .guest) (r1 x) (rangeCount x)) false))
 
--- LPSW, SPT and STPT are aligned to 8, LCTL and STCTL to 4
-unfoldable pub misaligned : Class → ℕ → Bool
-misaligned Lr a = false
-misaligned Ar a = false
-misaligned Sr a = false
-misaligned Bcr a = false
-misaligned Svc a = false
-misaligned La a = false
-misaligned Bc a = false
-misaligned St a = false
-misaligned L a = false
-misaligned Lpsw a = not (eqb (a % 8) 0)
-misaligned Stctl a = not (eqb (a % 4) 0)
-misaligned Lctl a = not (eqb (a % 4) 0)
-misaligned Stck a = false
-misaligned Spt a = not (eqb (a % 8) 0)
-misaligned Stpt a = not (eqb (a % 8) 0)
-misaligned Mandatory a = false
-misaligned Unassigned a = false
+unfoldable pub misaligned : ℕ → ℕ → Bool
+misaligned alignment a = not (eqb (a % alignment) 0)
 
--- The text is fetched: operation, privilege, interception, alignment, and then the operand. An unassigned opcode is not privileged,
--- intercepted or aligned, so that its operation exception comes first.
+-- the text is fetched: operation, privilege, interception, alignment, and then the operand
 unfoldable pub decoded : Progress → Opcode → Outcome
 decoded x o =
-    cond (o .privileged && problemState (x .cpu)) (exception x (x .cpu) (exceptionOf privilegedOperation))
+    cond (sameClass (o .class) Unassigned) (exception x (x .cpu) (exceptionOf operation))
+    (cond (o .privileged && problemState (x .cpu)) (exception x (x .cpu) (exceptionOf privilegedOperation))
     (cond (intercepts (o .class) x) (interceptInstruction x)
-    (cond (misaligned (o .class) (operandAddress x)) (exception x (x .cpu) (exceptionOf specification)) (execute (o .class) x)))
+    (cond (misaligned (o .alignment) (operandAddress x)) (exception x (x .cpu) (exceptionOf specification)) (execute (o .class) x))))
 
 -- the fetch of the text
 
@@ -101,7 +71,7 @@ reading x t more = record {
 }
 
 abbrev pub firstText : ℕ → Text
-firstText first = record { ilc = lengthOf first; first = first; second = 0; third = 0 }
+firstText first = record { ilc = (opcodeOf first) .length; first = first; second = 0; third = 0 }
 
 abbrev pub secondText : Text → ℕ → Text
 secondText t second = record { ilc = t .ilc; first = t .first; second = second; third = 0 }

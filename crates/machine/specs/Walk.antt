@@ -8,16 +8,17 @@ use Rattle.machine.specs.declared.TableEntry.{TableEntry}
 use Rattle.machine.specs.declared.TableEntry.the-variants.{Word, Unread}
 use Rattle.machine.specs.declared.Walk.{Walk}
 use Rattle.machine.specs.declared.Walk.the-variants.{Page, Failed}
+use Rattle.machine.specs.Sizes.{pageBytes, segmentBytes, segmentPages}
 use Rattle.machine.specs.Words.{bits, bit}
 use Rattle.machine.specs.Failures.{segmentTranslation, pageTranslation, translationSpecification}
 
 -- a 31-bit address: segment index 11 bits, page index 8 bits, byte 12 bits
 
 abbrev pub segmentIndex : ℕ → ℕ
-segmentIndex a = a / 1048576
+segmentIndex a = a / segmentBytes
 
 abbrev pub pageIndex : ℕ → ℕ
-pageIndex a = a / 4096 % 256
+pageIndex a = a / pageBytes % segmentPages
 
 -- a designation: bits 1-19 give the table, 25-31 its length
 

@@ -96,10 +96,12 @@ pub enum Class {
     Unassigned,
 }
 
-// What the table of opcodes says of a first halfword. The length is counted in halfwords.
+// What the table of opcodes says of a first halfword. The length is counted in halfwords; the operand's address is a multiple
+// of the alignment.
 pub struct Opcode {
     pub length: u8,
     pub privileged: bool,
+    pub alignment: u8,
     pub class: Class,
 }
 

@@ -1,4 +1,4 @@
--- An instruction that is neither privileged, intercepted nor misaligned is executed; and a step that is not done.
+-- An instruction that is assigned, and neither privileged, intercepted nor misaligned, is executed; and a step that is not done.
 -- Assumes nothing.
 use Prim.Native.Nat.{ℕ, _/_, _%_, _≤_, _<_}
 use native.Mathlib.Nat.{div-one}
@@ -9,11 +9,12 @@ use mathlib.Core.List.{List}
 use borrow.Author.Tests.{eq-eqb, ne-eqb, lt-ltb}
 use lib.Dec.{eqb}
 use Rattle.machine.specs.declared.Class.{Class}
+use Rattle.machine.specs.declared.Class.the-variants.{Unassigned}
 use Rattle.machine.specs.declared.Opcode.{Opcode}
 use Rattle.machine.specs.declared.Psw.{Psw}
 use Rattle.machine.specs.Words.{bits}
 use Rattle.machine.specs.Psw.{problemState, general}
-use Rattle.machine.specs.Opcodes.{lengthOf, numberOf, Row, opcodes, find, opcodeOf}
+use Rattle.machine.specs.Opcodes.{lengthOf, numberOf, sameClass, row, opcodes, find, opcodeOf}
 use Rattle.machine.specs.Outcomes.{Outcome, Progress}
 use Rattle.machine.specs.Execute.{r1, r2, operandAddress, execute}
 use Rattle.machine.specs.Units.{intercepts, misaligned, decoded}
@@ -33,13 +34,22 @@ pub length-two : (first : ℕ) → 16384 ≤ first → first < 49152 → lengthO
 unfolding lengthOf
 length-two first low high = rw (ne-eqb (bits 16 0 1 first) 0 (omega arith), lt-ltb (bits 16 0 1 first) 3 (omega arith))
 
+-- an opcode of a class that is not privileged and asks for no alignment
+pub record Plain (o : Opcode) (kind : Class) : Type 0 where
+  class : o .class ≡ kind
+  privileged : o .privileged ≡ false
+  alignment : o .alignment ≡ 1
+
 -- what the table says of a first byte that is not B2
-pub listed : (first n : ℕ) (r : Row) → first / 256 ≡ n → eqb n 0xb2 ≡ false → find n opcodes ≡ r
-    → (opcodeOf first .class ≡ r .class) × (opcodeOf first .privileged ≡ r .privileged)
+pub listed : (first n : ℕ) (kind : Class) → first / 256 ≡ n → eqb n 0xb2 ≡ false → find n opcodes ≡ row n false 1 kind → Plain (opcodeOf first) kind
 unfolding numberOf opcodeOf
-listed first n r here one-byte found =
-    let same : find (numberOf first) opcodes ≡ r = rw (here, one-byte) found in
-    (ap (λ r. r .class) same, ap (λ r. r .privileged) same)
+listed first n kind here one-byte found =
+    let same : find (numberOf first) opcodes ≡ row n false 1 kind = rw (here, one-byte) found in
+    record { class = ap (λ r. r .class) same; privileged = ap (λ r. r .privileged) same; alignment = ap (λ r. r .alignment) same }
+
+never-misaligned : (a : ℕ) → misaligned 1 a ≡ false
+unfolding misaligned
+never-misaligned a = rw (eq-eqb (a % 1) 0 (omega arith))
 
 -- the registers that the text of a unit in progress names
 module _ {first second value index base : ℕ} (x : Progress) (text : x .text ≡ shortText first second) (named : Named (x .cpu) first second value index base) where
@@ -58,20 +68,21 @@ module _ (guard storage keys : List ℕ) (psw : Psw) (kept : Kept) (first second
       subst (λ q. Stepped o guard storage keys psw kept first second value index base q storage keys) (sym made) (λ none. absurd (omega (arith, none)), λ _. (refl, refl, small))
 
   -- what the code does by `inner` is the instruction, where `inner` is what executes it in a state with this PSW, this text and these registers
-  pub decided : (o : Opcode) (kind : Class) → o .class ≡ kind → o .privileged ≡ false → ((x : Progress) → intercepts kind x ≡ false) → ((a : ℕ) → misaligned kind a ≡ false)
+  pub decided : (o : Opcode) (kind : Class) → Plain o kind → sameClass kind Unassigned ≡ false → ((x : Progress) → intercepts kind x ≡ false)
       → (inner : Progress → Outcome)
       → ((x : Progress) → x .cpu .psw ≡ psw → x .text ≡ shortText first second → Named (x .cpu) first second value index base → inner x ≡ execute kind x)
       → (q : Quick) (storage' keys' : List ℕ) → Stepped inner guard storage keys psw kept first second value index base q storage' keys'
       → Stepped (λ x. decoded x o) guard storage keys psw kept first second value index base q storage' keys'
-  decided o kind known allowed clear aligned inner same q storage' keys' (made, alone) = (
+  decided o kind plain assigned clear inner same q storage' keys' (made, alone) = (
     λ none. (
       λ h g clock c bytes marks state named keeps x standing.
           let here : c ≡ x .cpu = sym (standing .ofCpu) in
-          decoded-executed h x standing o (doneOf c q) (ap (λ b. b && problemState c) allowed) (ap (λ k. intercepts k x) known ∙ clear x)
-          (ap (λ k. misaligned k (operandAddress x)) known ∙ aligned (operandAddress x))
+          decoded-executed h x standing o (doneOf c q) (ap (λ k. sameClass k Unassigned) (plain .class) ∙ assigned)
+          (ap (λ b. b && problemState c) (plain .privileged)) (ap (λ k. intercepts k x) (plain .class) ∙ clear x)
+          (ap (λ n. misaligned n (operandAddress x)) (plain .alignment) ∙ never-misaligned (operandAddress x))
           (subst (λ e. Left h g c e (doneOf c q) storage' keys')
           (same x (ap (λ k. k .psw) (standing .ofCpu) ∙ state) (standing .ofText) (subst (λ k. Named k first second value index base) here named)
-          ∙ ap (λ k. execute k x) (sym known))
+          ∙ ap (λ k. execute k x) (sym (plain .class)))
           (made none .0 h g clock c bytes marks state named keeps x standing)),
       made none .1,
     ),

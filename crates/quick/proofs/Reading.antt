@@ -13,7 +13,7 @@ use Rattle.machine.specs.declared.Registers.{Registers}
 use Rattle.machine.specs.Words.{bits, halfAt}
 use Rattle.machine.specs.Psw.{wrap, instructionAddress}
 use Rattle.machine.specs.Host.{Host, view}
-use Rattle.machine.specs.Opcodes.{lengthOf}
+use Rattle.machine.specs.Opcodes.{lengthOf, opcodeOf}
 use Rattle.machine.specs.Units.{firstText, secondText, started, instruction}
 use Rattle.machine.proofs.PageBytes.{wrap-by-mode}
 use Rattle.address.specs.declared.Operand.the-variants.{Open}
@@ -71,23 +71,28 @@ module _ (h : Host) (g : Guest) (clock : ℕ) (c : Cpu) (kept : Kept) (at place 
   in-frame : oneFrame place ≡ textFrame kept
   in-frame = ap (λ f. record { count = 1; first = f; second = 0 }) (omega (arith, stands))
 
+  -- the fetch from the kept page
+  abbrev FetchedHere : ℕ → ℕ → Type 0
+  FetchedHere first second = FetchedAs h g clock c (instruction (started g clock (view g h) c 1)) (opcodeOf first) (whole (shortText first second) (textFrame kept))
+
   -- of one halfword
-  pub reads-one : (first : ℕ) → first ≡ halfAt (h .storage) place → lengthOf first < 2
-      → FetchedAs h g clock c (instruction (started g clock (view g h) c 1)) (whole (shortText first 0) (textFrame kept))
+  pub reads-one : (first : ℕ) → first ≡ halfAt (h .storage) place → lengthOf first < 2 → FetchedHere first 0
+  unfolding opcodeOf
   reads-one first read short =
-      subst (λ t. FetchedAs h g clock c (instruction (started g clock (view g h) c 1)) (whole (shortText first 0) t)) in-frame
-      (first-open noText noFrames place (oneFrame place) (marked-first place) (shortText first 0) (whole (shortText first 0) (oneFrame place)) found
-      (ap (λ half. firstText half) read) (second-spare (shortText first 0) (oneFrame place) short) _ clock c refl refl (standing-started h g clock c))
+      subst (λ t. FetchedAs h g clock c (instruction (started g clock (view g h) c 1)) (opcodeOf first) (whole (shortText first 0) t)) in-frame
+      (first-open noText noFrames place (oneFrame place) (marked-first place) (shortText first 0) (opcodeOf first) (whole (shortText first 0) (oneFrame place)) found
+      (ap (λ half. firstText half) read) refl (second-spare (shortText first 0) (oneFrame place) short) _ clock c refl refl (standing-started h g clock c 1 refl))
 
   -- of two halfwords
   pub reads-two : (first second : ℕ) → first ≡ halfAt (h .storage) place → second ≡ halfAt (h .storage) (place + 2) → 2 ≤ lengthOf first → lengthOf first < 3
-      → at % 4096 < 4094 → FetchedAs h g clock c (instruction (started g clock (view g h) c 1)) (whole (shortText first second) (textFrame kept))
+      → at % 4096 < 4094 → FetchedHere first second
+  unfolding opcodeOf
   reads-two first second read next more short inside =
-      subst (λ t. FetchedAs h g clock c (instruction (started g clock (view g h) c 1)) (whole (shortText first second) t)) in-frame
-      (first-open noText noFrames place (oneFrame place) (marked-first place) (shortText first 0) (whole (shortText first second) (oneFrame place)) found
-      (ap (λ half. firstText half) read)
+      subst (λ t. FetchedAs h g clock c (instruction (started g clock (view g h) c 1)) (opcodeOf first) (whole (shortText first second) t)) in-frame
+      (first-open noText noFrames place (oneFrame place) (marked-first place) (shortText first 0) (opcodeOf first) (whole (shortText first second) (oneFrame place)) found
+      (ap (λ half. firstText half) read) refl
       (second-open (shortText first 0) (oneFrame place) (place + 2) (oneFrame place)
       (marked-once (ends-in-first place place at refl) (place + 2) (omega (arith, same-offset found)))
       (shortText first second) (whole (shortText first second) (oneFrame place)) more (further found inside)
       (ap (λ half. secondText (shortText first 0) half) next) (third-spare (shortText first second) (oneFrame place) short))
-      _ clock c refl refl (standing-started h g clock c))
+      _ clock c refl refl (standing-started h g clock c 1 refl))

@@ -1,6 +1,6 @@
 -- How the instructions with no operand in storage end.
 -- Assumes nothing.
-use Prim.Native.Nat.{ℕ, _+_, _*_, _%_, _≤_, _<_}
+use Prim.Native.Nat.{ℕ, _+_, _*_, _%_, _≤_}
 use native.Mathlib.Nat.{div-one}
 use native.Mathlib.Omega.{arith}
 use mathlib.Core.Path.{_≡_, refl, ap, sym, subst, _∙_}
@@ -11,39 +11,31 @@ use Rattle.machine.specs.declared.Guest.{Guest}
 use Rattle.machine.specs.declared.Psw.{Psw}
 use Rattle.machine.specs.declared.Text.{Text}
 use lib.Dec.{eqb}
-use Rattle.machine.specs.Words.{bits, bit}
-use Rattle.machine.specs.Psw.{overflowEnabled, wrap, withPsw, withGeneral, withAddress, advanced, withConditionCode, general}
+use Rattle.machine.specs.Words.{bits}
+use Rattle.machine.specs.Psw.{conditionCode, overflowEnabled, wrap, withPsw, withGeneral, withAddress, advanced, withConditionCode, general}
 use Rattle.machine.specs.Failures.{fixedPointOverflow, exceptionOf}
 use Rattle.machine.specs.Host.{Host}
 use Rattle.machine.specs.Outcomes.{Progress}
 use Rattle.machine.specs.Interruptions.{supervisorCallAreas, codeFields, interrupt, exception}
-use Rattle.machine.specs.Execute.{r1, r2, next, finish, sumCode, withSum, summed, sumOf, sumOverflows, differenceOf, differenceOverflows, add, subtract, branch, supervisorCall}
+use Rattle.machine.specs.Execute.{r1, r2, next, finish, sumCode, withSum, summed, branch, supervisorCall}
 use Rattle.execute.specs.declared.Done.{Done}
 use Rattle.execute.specs.declared.Event.the-variants as event
 use Rattle.execute.specs.declared.Frames.{Frames}
 use Rattle.execute.specs.After.{leftBy, markText, Standing, Left, codeBytes}
 use Rattle.execute.proofs.Exceptions.{code-word}
 use Rattle.execute.proofs.Reaching.{past-it, left-finished}
+use Rattle.adder.proofs.Sums.{coded-overflow, sum-state}
 
 -- past an instruction goes the PSW alone
 past-general : (c : Cpu) (i value n : ℕ) → advanced (withGeneral c i value) n .psw ≡ advanced c n .psw
 unfolding advanced withAddress withPsw withGeneral wrap
 past-general c i value n = refl
 
-pub small-code : (sum : ℕ) (overflow : Bool) → sumCode sum overflow < 4
-unfolding sumCode
-small-code sum true = omega arith
-small-code sum false = either (eqb sum 0) (omega arith) (either (bit 32 0 sum) (omega arith) (omega arith))
-  where
-    either : (b : Bool) {m n : ℕ} → m < 4 → n < 4 → cond b m n < 4
-    either true p q = p
-    either false p q = q
-
--- the state that a sum leaves, by its PSW
-pub summed-state : (c : Cpu) (i sum : ℕ) (overflow : Bool) (psw : Psw) → psw ≡ withConditionCode c (sumCode sum overflow) .psw
-    → withPsw (withGeneral c i sum) psw ≡ withSum c i sum overflow
-unfolding withSum withConditionCode withPsw withGeneral
-summed-state c i sum overflow psw coded = ap (withPsw (withGeneral c i sum)) coded
+-- a sum is a program exception, by the condition code that the code has
+pub sum-interrupts : (c : Cpu) (sum : ℕ) (overflow : Bool) (code : ℕ) → code ≡ conditionCode (withConditionCode c (sumCode sum overflow))
+    → (interrupts : Bool) → interrupts ≡ (eqb code 3 && overflowEnabled c) → (overflow && overflowEnabled c) ≡ interrupts
+sum-interrupts c sum overflow code is interrupts tested =
+    sym (tested ∙ ap (λ b. b && overflowEnabled c) (ap (λ n. eqb n 3) is ∙ coded-overflow c sum overflow))
 
 module _ (h : Host) (x : Progress) {g : Guest} {clock : ℕ} {c : Cpu} {text : Text} {t : Frames} (standing : Standing h x g clock c text t) where
   -- the registers that the text names
@@ -103,28 +95,20 @@ module _ (h : Host) (x : Progress) {g : Guest} {clock : ℕ} {c : Cpu} {text : T
         (finish x (next x (withSum (x .cpu) (r1 x) sum overflow)) [] [])) (enabled ∙ goes)))
         (left-finished h x standing _ d ended
         (left ∙ past-it h x standing (withPsw (withGeneral c (bits 16 8 11 (text .first)) sum) coded) psw (moved _ refl)
-        ∙ ap (next x) (summed-state c _ sum overflow coded code ∙ state))
+        ∙ ap (next x) (sum-state c sum overflow _ coded code ∙ state))
         marks)
 
-  -- ADD and SUBTRACT, by the sum that the code has
-  module _ (d : Done) {storage keys : List ℕ} (value : ℕ) (overflow : Bool) where
-    pub added : value ≡ sumOf (general c (bits 16 8 11 (text .first))) (general c (text .first % 16))
-        → overflow ≡ sumOverflows (general c (bits 16 8 11 (text .first))) (general c (text .first % 16))
-        → Left h g c (summed x value overflow) d storage keys → Left h g c (add x) d storage keys
-    unfolding add
-    added sum over left =
-        subst (λ o. Left h g c o d storage keys)
-        (λ i. summed x ((sum ∙ (λ j. sumOf (first-register j) (second-register j))) i) ((over ∙ (λ j. sumOverflows (first-register j) (second-register j))) i))
-        left
-
-    pub subtracted : value ≡ differenceOf (general c (bits 16 8 11 (text .first))) (general c (text .first % 16))
-        → overflow ≡ differenceOverflows (general c (bits 16 8 11 (text .first))) (general c (text .first % 16))
-        → Left h g c (summed x value overflow) d storage keys → Left h g c (subtract x) d storage keys
-    unfolding subtract
-    subtracted sum over left =
-        subst (λ o. Left h g c o d storage keys)
-        (λ i. summed x ((sum ∙ (λ j. differenceOf (first-register j) (second-register j))) i) ((over ∙ (λ j. differenceOverflows (first-register j) (second-register j))) i))
-        left
+  -- ADD and SUBTRACT, by what the code has of the sum of its two words
+  pub of-words : (d : Done) {storage keys : List ℕ} (sum : ℕ → ℕ → ℕ) (overflows : ℕ → ℕ → Bool) (coded : Psw) (value : ℕ)
+      → (let a = general c (bits 16 8 11 (text .first)) in let b = general c (text .first % 16) in
+      (coded ≡ withConditionCode c (sumCode (sum a b) (overflows a b)) .psw) × (value ≡ sum a b))
+      → ((overflow : Bool) → coded ≡ withConditionCode c (sumCode value overflow) .psw → Left h g c (summed x value overflow) d storage keys)
+      → (let a = general (x .cpu) (r1 x) in let b = general (x .cpu) (r2 x) in Left h g c (summed x (sum a b) (overflows a b)) d storage keys)
+  of-words d {storage} {keys} sum overflows coded value (code, same) left =
+      let over = overflows (general c (bits 16 8 11 (text .first))) (general c (text .first % 16)) in
+      subst (λ o. Left h g c o d storage keys)
+      (λ i. summed x ((same ∙ (λ j. sum (first-register j) (second-register j))) i) (overflows (first-register i) (second-register i)))
+      (left over (code ∙ ap (λ n. withConditionCode c (sumCode n over) .psw) (sym same)))
 
   -- SUPERVISOR CALL is an interruption behind the instruction
   pub supervisor-called : text .ilc ≤ 3 → (d : Done) {storage keys : List ℕ} (psw : Psw) (after : Cpu) → psw ≡ advanced c (text .ilc) .psw

@@ -1,17 +1,16 @@
 // The instructions that have no operand in storage: LOAD (LR), ADD, SUBTRACT, BRANCH ON CONDITION, SUPERVISOR CALL and LOAD
 // ADDRESS. Each contract says that the code does what machine's Execute defines for every unit in progress that stands so.
 ghost use mathlib.Core.Path.{_≡_};
-ghost use mathlib.Core.Bool.{cond, not, _&&_};
+ghost use mathlib.Core.Bool.{Bool, cond, not, _&&_};
 ghost use Prim.Native.Nat.{ℕ, _≤_};
 ghost use lib.Dec.{eqb};
 ghost use Rattle.machine.specs.Words.{bits};
-ghost use Rattle.machine.specs.Psw.{conditionCode, overflowEnabled, withAddress};
+ghost use Rattle.machine.specs.Psw.{conditionCode, overflowEnabled, withAddress, withConditionCode};
 ghost use Rattle.machine.specs.Host.{Host, host};
 ghost use Rattle.machine.specs.Outcomes.{Progress};
 ghost use Rattle.machine.specs.Execute.{next, loadRegister, sumCode, summed, add, subtract, selected, branchRegister, branchIndexed, supervisorCall, loadAddress};
 ghost use Rattle.execute.specs.After.{leftBy, WithKeys};
 ghost use Rattle.execute.specs.Reaching.{Ready, Does};
-use adder::Sum;
 use execute::Done;
 use execute::Event;
 use execute::Frames;
@@ -108,7 +107,8 @@ pub fn interrupts(psw: Psw, overflow: bool) -> bool
     false
 }
 
-// A sum: general register and condition code are set, and an overflow that is a program exception comes behind them.
+// A sum, by the PSW with its condition code and its value: both are set, and an overflow that is a program exception comes behind them.
+// Condition code 3 is an overflow.
 fn summed(
     storage: &mut [u8],
     keys: &mut [u8],
@@ -117,26 +117,26 @@ fn summed(
     cpu: Cpu,
     text: Text,
     t: Frames,
-    sum: Sum,
+    coded: Psw,
+    value: u32,
 ) -> Done
     requires { ⌜ Ready (now storage) (now keys) guest text t ⌝ }
-    requires { ⌜ sum .code ≡ sumCode (sum .value) (sum .overflow) ⌝ }
-    ensures { λ r. ⌜ ((clock : ℕ) → Does (λ x. summed x (sum .value) (sum .overflow)) (host designation (now (storage .entry)) (now (keys .entry))) guest clock cpu text t r (now (storage .exit)) (now (keys .exit))) ⌝ }
+    ensures { λ r. ⌜ ((overflow : Bool) (clock : ℕ) → coded ≡ (withConditionCode cpu (sumCode value overflow)) .psw
+        → Does (λ x. summed x value overflow) (host designation (now (storage .entry)) (now (keys .entry))) guest clock cpu text t r (now (storage .exit)) (now (keys .exit))) ⌝ }
 {
     let i = text.first as u32 / 16 % 16;
-    let coded = cpu::with_condition_code(cpu.psw, sum.code);
-    if interrupts(cpu.psw, sum.overflow) {
+    if interrupts(cpu.psw, cpu::condition_code(coded) == 3) {
         let f = Failure {
             host: false,
             code: OVERFLOW,
             address: 0,
         };
-        let done = execute::with_general(cpu, coded, i, sum.value);
+        let done = execute::with_general(cpu, coded, i, value);
         return execute::exception(storage, keys, designation, guest, cpu.psw, done, text, f, t);
     }
     execute::mark_text(keys, t);
     let psw = cpu::advanced(coded, text.ilc as u32);
-    execute::with_general(cpu, psw, i, sum.value)
+    execute::with_general(cpu, psw, i, value)
 }
 
 // ADD (AR).
@@ -152,9 +152,10 @@ pub fn add(
     requires { ⌜ Ready (now storage) (now keys) guest text t ⌝ }
     ensures { λ r. ⌜ ((clock : ℕ) → Does add (host designation (now (storage .entry)) (now (keys .entry))) guest clock cpu text t r (now (storage .exit)) (now (keys .exit))) ⌝ }
 {
-    let general = cpu.general;
-    let a = general.words[(text.first as u32 / 16 % 16) as usize];
-    let b = general.words[(text.first as u32 % 16) as usize];
+    let i = text.first as u32 / 16 % 16;
+    let after = adder::added(cpu, i, text.first as u32 % 16);
+    let general = after.general;
+    let value = general.words[i as usize];
     summed(
         storage,
         keys,
@@ -163,7 +164,8 @@ pub fn add(
         cpu,
         text,
         t,
-        adder::add(a, b),
+        after.psw,
+        value,
     )
 }
 
@@ -183,6 +185,8 @@ pub fn subtract(
     let general = cpu.general;
     let a = general.words[(text.first as u32 / 16 % 16) as usize];
     let b = general.words[(text.first as u32 % 16) as usize];
+    let sum = adder::subtract(a, b);
+    let coded = cpu::with_condition_code(cpu.psw, sum.code);
     summed(
         storage,
         keys,
@@ -191,7 +195,8 @@ pub fn subtract(
         cpu,
         text,
         t,
-        adder::subtract(a, b),
+        coded,
+        sum.value,
     )
 }
 

@@ -18,7 +18,8 @@ use Rattle.machine.specs.Outcomes.{Outcome, completed, intercepted, faulted}
 use Rattle.machine.specs.Units.{unit}
 use Rattle.machine.specs.Run.{Machine, Ended as Run, hostOf, unitFrom, behindOf, markedBy, afterUnit, afterInterception, stepOf, step, counted, onward, run}
 use Rattle.machine.proofs.Laws.{guest-of-withCpu}
-use Rattle.machine.proofs.Lens.{Sixteen, Bounded, cpu-of-withCpu, withCpu-withCpu}
+use Rattle.machine.specs.Record.{Sixteen, Bounded}
+use Rattle.machine.proofs.Lens.{cpu-of-withCpu, withCpu-withCpu}
 use Rattle.machine.proofs.Runs.{more}
 use Rattle.execute.proofs.Reaching.{not-both}
 use Rattle.execute.specs.declared.Done.{Done}

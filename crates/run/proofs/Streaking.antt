@@ -15,7 +15,7 @@ use Rattle.machine.specs.Time.{clockAfter, timerAfter, charged}
 use Rattle.machine.specs.Host.{host, view}
 use Rattle.machine.specs.Units.{unit}
 use Rattle.machine.specs.Run.{Machine, Ended as Run, run}
-use Rattle.machine.proofs.Lens.{Bounded}
+use Rattle.machine.specs.Record.{Bounded}
 use Rattle.machine.proofs.Runs.{more}
 use Rattle.execute.specs.After.{leftBy, Left}
 use Rattle.pages.specs.declared.Kept.{Kept}

@@ -15,7 +15,7 @@ use Rattle.machine.specs.Record.{guestOf, withCpu}
 use Rattle.machine.specs.Host.{Host, view}
 use Rattle.machine.specs.Units.{unit}
 use Rattle.machine.specs.Run.{Machine, Ended as Run, run}
-use Rattle.machine.proofs.Lens.{Bounded}
+use Rattle.machine.specs.Record.{Bounded}
 use Rattle.machine.proofs.Runs.{more}
 use Rattle.execute.specs.After.{Left}
 use Rattle.execute.specs.declared.Event.{Event}

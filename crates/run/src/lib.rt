@@ -9,7 +9,7 @@ ghost use Rattle.machine.specs.Refusals.{framesOf};
 ghost use Rattle.machine.specs.Time.{charged};
 ghost use Rattle.machine.specs.Host.{Cell};
 ghost use Rattle.machine.specs.Units.{started, instruction, unit};
-ghost use Rattle.machine.proofs.Lens.{Sixteen, Bounded};
+ghost use Rattle.machine.specs.Record.{Sixteen, Bounded};
 ghost use Rattle.storage.specs.Entered.{Entered};
 ghost use Rattle.execute.specs.After.{leftBy};
 ghost use Rattle.pages.specs.Keeping.{Inside};

@@ -16,8 +16,8 @@ use Rattle.machine.specs.declared.Reason.the-variants as reason
 use Rattle.machine.specs.declared.Text.{Text}
 use Rattle.machine.specs.Psw.{problemState, withPsw, advanced}
 use Rattle.machine.specs.Failures.{operation, privilegedOperation, specification, exceptionOf}
-use Rattle.machine.specs.Host.{Host, view, marked}
-use Rattle.machine.specs.Opcodes.{opcodeOf}
+use Rattle.machine.specs.Host.{Host, view}
+use Rattle.machine.specs.Opcodes.{sameClass}
 use Rattle.machine.specs.Outcomes.{Outcome, Progress}
 use Rattle.machine.specs.Interruptions.{exception}
 use Rattle.machine.specs.Execute.{next, operandAddress, interceptInstruction, execute}
@@ -25,12 +25,12 @@ use Rattle.machine.specs.Units.{intercepts, misaligned, decoded, started, instr
 use Rattle.cpu.specs.declared.Before.{Before}
 use Rattle.cpu.specs.declared.Before.the-variants.{Ends, Malformed, Instruction}
 use Rattle.cpu.specs.Before.{unitAfter}
-use Rattle.text.specs.declared.Fetched.{Fetched}
+use Rattle.text.specs.declared.Reading.{Reading}
 use Rattle.text.specs.Fetching.{FetchedAs}
 use Rattle.execute.specs.declared.Done.{Done}
 use Rattle.execute.specs.declared.Event.the-variants as event
 use Rattle.execute.specs.declared.Frames.{Frames}
-use Rattle.execute.specs.After.{leftBy, markText, Standing, Left}
+use Rattle.execute.specs.After.{leftBy, Standing, Left}
 use Rattle.execute.proofs.Exceptions.{left-intercepted}
 use Rattle.execute.proofs.Reaching.{past-it}
 
@@ -43,38 +43,50 @@ module _ (h : Host) (x : Progress) {g : Guest} {clock : ℕ} {c : Cpu} {text : T
       left-intercepted h g c (reason.Instruction (x .text)) (next x (x .cpu)) d (ended ∙ ap (λ u. event.Intercepted (reason.Instruction u)) (sym (standing .ofText)))
       (left ∙ past-it h x standing c psw moved ∙ ap (next x) (sym (standing .ofCpu)))
 
-  -- the tests in their order: privilege, interception, alignment, and then the instruction
+  -- the tests in their order: operation, privilege, interception, alignment, and then the instruction
   module _ (o : Opcode) (d : Done) {storage keys : List ℕ} where
     -- with the tests that the code has made
-    by-tests : (p q r : Bool) → (o .privileged && problemState c) ≡ p → intercepts (o .class) x ≡ q → misaligned (o .class) (operandAddress x) ≡ r
+    by-tests : (u p q r : Bool) → sameClass (o .class) Unassigned ≡ u → (o .privileged && problemState c) ≡ p → intercepts (o .class) x ≡ q
+        → misaligned (o .alignment) (operandAddress x) ≡ r
         → Left h g c
+        (cond u (exception x (x .cpu) (exceptionOf operation))
         (cond p (exception x (x .cpu) (exceptionOf privilegedOperation))
-        (cond q (interceptInstruction x) (cond r (exception x (x .cpu) (exceptionOf specification)) (execute (o .class) x)))) d storage keys
+        (cond q (interceptInstruction x) (cond r (exception x (x .cpu) (exceptionOf specification)) (execute (o .class) x))))) d storage keys
         → Left h g c (decoded x o) d storage keys
     unfolding decoded
-    by-tests p q r privileged asked aligned left =
+    by-tests u p q r unassigned privileged asked aligned left =
         subst (λ o. Left h g c o d storage keys)
-        (λ i. cond ((sym privileged ∙ ap (λ k. o .privileged && problemState k) (sym (standing .ofCpu))) i) (exception x (x .cpu) (exceptionOf privilegedOperation))
-        (cond (sym asked i) (interceptInstruction x) (cond (sym aligned i) (exception x (x .cpu) (exceptionOf specification)) (execute (o .class) x))))
+        (λ i. cond (sym unassigned i) (exception x (x .cpu) (exceptionOf operation))
+        (cond ((sym privileged ∙ ap (λ k. o .privileged && problemState k) (sym (standing .ofCpu))) i) (exception x (x .cpu) (exceptionOf privilegedOperation))
+        (cond (sym asked i) (interceptInstruction x) (cond (sym aligned i) (exception x (x .cpu) (exceptionOf specification)) (execute (o .class) x)))))
         left
 
-    pub decoded-forbidden : (f : Failure) → f ≡ exceptionOf privilegedOperation → (o .privileged && problemState c) ≡ true
+    -- the exception as the code has it
+    with-failure : (f : Failure) (code : ℕ) → f ≡ exceptionOf code → Left h g c (exception x (x .cpu) f) d storage keys
+        → Left h g c (exception x (x .cpu) (exceptionOf code)) d storage keys
+    with-failure f code made left = subst (λ f. Left h g c (exception x (x .cpu) f) d storage keys) made left
+
+    pub decoded-unassigned : (f : Failure) → f ≡ exceptionOf operation → sameClass (o .class) Unassigned ≡ true
         → Left h g c (exception x (x .cpu) f) d storage keys → Left h g c (decoded x o) d storage keys
-    decoded-forbidden f code privileged left =
-        by-tests true _ _ privileged refl refl (subst (λ f. Left h g c (exception x (x .cpu) f) d storage keys) code left)
+    decoded-unassigned f made unassigned left = by-tests true _ _ _ unassigned refl refl refl (with-failure f operation made left)
 
-    pub decoded-intercepted : (o .privileged && problemState c) ≡ false → intercepts (o .class) x ≡ true → Left h g c (interceptInstruction x) d storage keys
-        → Left h g c (decoded x o) d storage keys
-    decoded-intercepted privileged asked left = by-tests false true _ privileged asked refl left
+    module _ (assigned : sameClass (o .class) Unassigned ≡ false) where
+      pub decoded-forbidden : (f : Failure) → f ≡ exceptionOf privilegedOperation → (o .privileged && problemState c) ≡ true
+          → Left h g c (exception x (x .cpu) f) d storage keys → Left h g c (decoded x o) d storage keys
+      decoded-forbidden f made privileged left = by-tests false true _ _ assigned privileged refl refl (with-failure f privilegedOperation made left)
 
-    pub decoded-misaligned : (f : Failure) → f ≡ exceptionOf specification → (o .privileged && problemState c) ≡ false → intercepts (o .class) x ≡ false
-        → misaligned (o .class) (operandAddress x) ≡ true → Left h g c (exception x (x .cpu) f) d storage keys → Left h g c (decoded x o) d storage keys
-    decoded-misaligned f code privileged asked aligned left =
-        by-tests false false true privileged asked aligned (subst (λ f. Left h g c (exception x (x .cpu) f) d storage keys) code left)
+      pub decoded-intercepted : (o .privileged && problemState c) ≡ false → intercepts (o .class) x ≡ true → Left h g c (interceptInstruction x) d storage keys
+          → Left h g c (decoded x o) d storage keys
+      decoded-intercepted privileged asked left = by-tests false false true _ assigned privileged asked refl left
 
-    pub decoded-executed : (o .privileged && problemState c) ≡ false → intercepts (o .class) x ≡ false → misaligned (o .class) (operandAddress x) ≡ false
-        → Left h g c (execute (o .class) x) d storage keys → Left h g c (decoded x o) d storage keys
-    decoded-executed privileged asked aligned left = by-tests false false false privileged asked aligned left
+      pub decoded-misaligned : (f : Failure) → f ≡ exceptionOf specification → (o .privileged && problemState c) ≡ false → intercepts (o .class) x ≡ false
+          → misaligned (o .alignment) (operandAddress x) ≡ true → Left h g c (exception x (x .cpu) f) d storage keys → Left h g c (decoded x o) d storage keys
+      decoded-misaligned f made privileged asked aligned left =
+          by-tests false false false true assigned privileged asked aligned (with-failure f specification made left)
+
+      pub decoded-executed : (o .privileged && problemState c) ≡ false → intercepts (o .class) x ≡ false → misaligned (o .alignment) (operandAddress x) ≡ false
+          → Left h g c (execute (o .class) x) d storage keys → Left h g c (decoded x o) d storage keys
+      decoded-executed privileged asked aligned left = by-tests false false false false assigned privileged asked aligned left
 
 -- an instruction by its class
 pub performed : (h : Host) (g : Guest) (c : Cpu) (x : Progress) {class kind : Class} (d : Done) {storage keys : List ℕ} → class ≡ kind
@@ -89,12 +101,13 @@ performed-unassigned h g c x d {storage} {keys} f code known left =
     performed h g c x d known (subst (λ f. Left h g c (exception x (x .cpu) f) d storage keys) code left)
 
 -- the fetch of the text, as it ended
-module _ (h : Host) (g : Guest) (clock : ℕ) (c : Cpu) {o : Outcome} (r : Fetched) (d : Done) {storage keys : List ℕ} (fetched : FetchedAs h g clock c o r) where
-  by-end : (b : Bool) → r .failed ≡ b → Left h g c (cond b (exception (fetched .0) c (r .failure)) (decoded (fetched .0) (opcodeOf (r .text .first)))) d storage keys
+module _ (h : Host) (g : Guest) (clock : ℕ) (c : Cpu) {o : Outcome} (code : Opcode) (r : Reading) (d : Done) {storage keys : List ℕ}
+    (fetched : FetchedAs h g clock c o code r) where
+  by-end : (b : Bool) → r .failed ≡ b → Left h g c (cond b (exception (fetched .0) c (r .failure)) (decoded (fetched .0) code)) d storage keys
       → Left h g c o d storage keys
   by-end b ends left =
       subst (λ o. Left h g c o d storage keys)
-      (sym (fetched .2 ∙ ap (λ b. cond b (exception (fetched .0) c (r .failure)) (decoded (fetched .0) (opcodeOf (r .text .first)))) ends))
+      (sym (fetched .2 ∙ ap (λ b. cond b (exception (fetched .0) c (r .failure)) (decoded (fetched .0) code)) ends))
       left
 
   pub fetch-failed : r .failed ≡ true
@@ -103,16 +116,9 @@ module _ (h : Host) (g : Guest) (clock : ℕ) (c : Cpu) {o : Outcome} (r : Fetch
   fetch-failed ends left =
       by-end true ends (subst (λ k. Left h g c (exception (fetched .0) k (r .failure)) d storage keys) (fetched .1 .ofCpu) (left (fetched .0) (fetched .1)))
 
-  pub fetch-whole : r .failed ≡ false → (code : Opcode) → code ≡ opcodeOf (r .text .first)
+  pub fetch-whole : r .failed ≡ false
       → ((x : Progress) → Standing h x g clock c (r .text) (r .frames) → Left h g c (decoded x code) d storage keys) → Left h g c o d storage keys
-  fetch-whole ends code named left =
-      by-end false ends (subst (λ code. Left h g c (decoded (fetched .0) code) d storage keys) named (left (fetched .0) (fetched .1)))
-
--- before the instruction: nothing is fetched
-pub standing-unfetched : (h : Host) (g : Guest) (clock : ℕ) (c : Cpu) (text : Text) → text ≡ record { ilc = 0; first = 0; second = 0; third = 0 }
-    → Standing h (started g clock (view g h) c 0) g clock c text (record { count = 0; first = 0; second = 0 })
-unfolding marked markText
-standing-unfetched h g clock c text none = record { ofGuest = refl; ofClock = refl; ofView = refl; ofCpu = refl; ofText = sym none; marks = λ k. refl }
+  fetch-whole ends left = by-end false ends (left (fetched .0) (fetched .1))
 
 -- a unit by what the list before it comes to
 module _ (h : Host) (g : Guest) (clock : ℕ) (c : Cpu) (before : Before) (d : Done) where

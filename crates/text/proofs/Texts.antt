@@ -13,6 +13,7 @@ use lib.Seq.{getD-take, getD-drop}
 use Rattle.machine.specs.declared.Cpu.{Cpu}
 use Rattle.machine.specs.declared.Failure.{Failure}
 use Rattle.machine.specs.declared.Guest.{Guest}
+use Rattle.machine.specs.declared.Opcode.{Opcode}
 use Rattle.machine.specs.declared.Psw.{Psw}
 use Rattle.machine.specs.declared.Registers.{Registers}
 use Rattle.machine.specs.declared.Text.{Text}
@@ -22,7 +23,7 @@ use Rattle.machine.specs.Failures.{specification, exceptionOf}
 use Rattle.machine.specs.Host.{Host, Located, places, backing, view, referenced, marked}
 use Rattle.machine.specs.Addresses.{access, all, stopped, accesses, span, whenReached}
 use Rattle.machine.specs.Opcodes.{opcodeOf}
-use Rattle.machine.specs.Outcomes.{Progress}
+use Rattle.machine.specs.Outcomes.{Outcome, Progress}
 use Rattle.machine.specs.Interruptions.{exception}
 use Rattle.machine.specs.Units.{decoded, halfword, reading, firstText, secondText, thirdText, halfOf, fetchThird, fetchSecond, instruction, started}
 use Rattle.machine.proofs.PageBytes.{span-of-wrap, marked-append, referenced-twice}
@@ -34,17 +35,19 @@ use Rattle.address.proofs.Operands.{operand-shut, operand-open}
 use Rattle.address.proofs.Seen.{operand-seen}
 use Rattle.execute.specs.declared.Frames.{Frames}
 use Rattle.execute.specs.After.{Standing, markText}
-use Rattle.text.specs.Fetching.{Fetches, Halfword, noText, noFrames, cutShort, whole}
-use Rattle.text.specs.declared.Fetched.{Fetched}
+use Rattle.text.specs.Fetching.{FetchedAs, Fetches, Halfword, noFrames, cutShort, whole}
+use Rattle.text.specs.declared.Reading.{Reading}
 use Rattle.text.proofs.Halfwords.{wrapped, even-address}
 
 half-of-part : (s : List ℕ) (p q : ℕ) → halfAt (take 2 (drop p s) ++ take (2 - 2) (drop q s)) 0 ≡ halfAt s p
 half-of-part s p q =
     rw (append-nil, getD-take 2 (drop p s) 0 0 (omega arith), getD-take 2 (drop p s) 1 0 (omega arith), getD-drop p s 0 0, getD-drop p s 1 0, add-zero p)
 
-pub standing-started : (h : Host) (g : Guest) (clock : ℕ) (c : Cpu) → Standing h (started g clock (view g h) c 1) g clock c noText noFrames
+-- before anything is fetched, with any length code
+pub standing-started : (h : Host) (g : Guest) (clock : ℕ) (c : Cpu) (ilc : ℕ) {text : Text} → text ≡ record { ilc = ilc; first = 0; second = 0; third = 0 }
+    → Standing h (started g clock (view g h) c ilc) g clock c text noFrames
 unfolding marked markText
-standing-started h g clock c = record { ofGuest = refl; ofClock = refl; ofView = refl; ofCpu = refl; ofText = refl; marks = λ k. refl }
+standing-started h g clock c ilc none = record { ofGuest = refl; ofClock = refl; ofView = refl; ofCpu = refl; ofText = sym none; marks = λ k. refl }
 
 -- halfword n is read at p, by a unit in progress that had these frames
 record Read (h : Host) (x : Progress) (g : Guest) (clock : ℕ) (c : Cpu) (t : Frames) (n p : ℕ) (ls : List Located) : Type 0 where
@@ -115,67 +118,75 @@ module _ {h : Host} {x : Progress} {g : Guest} {clock : ℕ} {c : Cpu} {text : T
   long : (m : ℕ) → m ≤ text .ilc → ltb (x .text .ilc) m ≡ false
   long m more = le-ltb _ m (subst (λ s. m ≤ s .ilc) (sym (standing .ofText)) more)
 
+-- the opcode by an equal one
+with-opcode : {h : Host} {g : Guest} {clock : ℕ} {c : Cpu} {o : Outcome} {code code' : Opcode} (r : Reading) → code ≡ code'
+    → FetchedAs h g clock c o code r → FetchedAs h g clock c o code' r
+with-opcode {h} {g} {clock} {c} {o} r same fetched = subst (λ code. FetchedAs h g clock c o code r) same fetched
+
 module _ {h : Host} {g : Guest} {psw : Psw} {control : Registers} (text : Text) (t : Frames) where
   -- the instruction is shorter
-  pub second-spare : text .ilc < 2 → Fetches h g psw control text t fetchSecond (whole text t)
+  pub second-spare : text .ilc < 2 → Fetches h g psw control text t fetchSecond (opcodeOf (text .first)) (whole text t)
   unfolding fetchSecond
   second-spare less x clock c ofPsw ofControl standing =
       (x, standing, rw (short standing 2 less) (ap (λ s. decoded x (opcodeOf (s .first))) (standing .ofText)))
 
-  pub third-spare : text .ilc < 3 → Fetches h g psw control text t fetchThird (whole text t)
+  pub third-spare : text .ilc < 3 → Fetches h g psw control text t fetchThird (opcodeOf (text .first)) (whole text t)
   unfolding fetchThird
   third-spare less x clock c ofPsw ofControl standing =
       (x, standing, rw (short standing 3 less) (ap (λ s. decoded x (opcodeOf (s .first))) (standing .ofText)))
 
   -- an odd address
-  pub first-odd : instructionAddress (seen psw control) % 2 ≡ 1 → Fetches h g psw control text t instruction (cutShort (exceptionOf specification) text t)
+  pub first-odd : (code : Opcode) → instructionAddress (seen psw control) % 2 ≡ 1
+      → Fetches h g psw control text t instruction code (cutShort (exceptionOf specification) text t)
   unfolding instruction
-  first-odd odd x clock c ofPsw ofControl standing =
+  first-odd code odd x clock c ofPsw ofControl standing =
       let same : instructionAddress (x .cpu) ≡ instructionAddress (seen psw control) =
       ap (λ k. instructionAddress k) (standing .ofCpu) ∙ ap (λ p. instructionAddress (seen p control)) ofPsw in
       (x, standing, rw (same, eq-eqb _ 1 odd) (ap (λ k. exception x k (exceptionOf specification)) (standing .ofCpu)))
 
   -- the next halfword cannot be read
-  module _ (f : Failure) {a : ℕ} where
-    pub first-shut : Halfword h g (seen psw control) 0 a (Shut f) → Fetches h g psw control text t instruction (cutShort f text t)
+  module _ (code : Opcode) (f : Failure) {a : ℕ} where
+    pub first-shut : Halfword h g (seen psw control) 0 a (Shut f) → Fetches h g psw control text t instruction code (cutShort f text t)
     unfolding instruction whenReached
     first-shut found x clock c ofPsw ofControl standing =
         (x, standing, rw (not-odd standing ofPsw ofControl 0 found, halfword-shut standing ofPsw ofControl 0 found) (ap (λ k. exception x k f) (standing .ofCpu)))
 
-    pub second-shut : 2 ≤ text .ilc → Halfword h g (seen psw control) 1 a (Shut f) → Fetches h g psw control text t fetchSecond (cutShort f text t)
+    pub second-shut : 2 ≤ text .ilc → Halfword h g (seen psw control) 1 a (Shut f) → Fetches h g psw control text t fetchSecond code (cutShort f text t)
     unfolding fetchSecond whenReached
     second-shut more found x clock c ofPsw ofControl standing =
         (x, standing, rw (long standing 2 more, halfword-shut standing ofPsw ofControl 1 found) (ap (λ k. exception x k f) (standing .ofCpu)))
 
-    pub third-shut : 3 ≤ text .ilc → Halfword h g (seen psw control) 2 a (Shut f) → Fetches h g psw control text t fetchThird (cutShort f text t)
+    pub third-shut : 3 ≤ text .ilc → Halfword h g (seen psw control) 2 a (Shut f) → Fetches h g psw control text t fetchThird code (cutShort f text t)
     unfolding fetchThird whenReached
     third-shut more found x clock c ofPsw ofControl standing =
         (x, standing, rw (long standing 3 more, halfword-shut standing ofPsw ofControl 2 found) (ap (λ k. exception x k f) (standing .ofCpu)))
 
   -- the next halfword stands at p, and its frame is among the frames from then on
   module _ (p : ℕ) {a : ℕ} (t' : Frames) (marks : (k : List ℕ) → markFrame referenced (p / 4096) (markText t k) ≡ markText t' k) where
-    pub first-open : (text' : Text) (r : Fetched) → Halfword h g (seen psw control) 0 a (Open p 2 0) → text' ≡ firstText (halfAt (h .storage) p)
-        → Fetches h g psw control text' t' fetchSecond r → Fetches h g psw control text t instruction r
+    pub first-open : (text' : Text) (code : Opcode) (r : Reading) → Halfword h g (seen psw control) 0 a (Open p 2 0)
+        → text' ≡ firstText (halfAt (h .storage) p) → code ≡ opcodeOf (text' .first)
+        → Fetches h g psw control text' t' fetchSecond (opcodeOf (text' .first)) r → Fetches h g psw control text t instruction code r
     unfolding instruction whenReached
-    first-open text' r found isText rest x clock c ofPsw ofControl standing =
+    first-open text' code r found isText known rest x clock c ofPsw ofControl standing =
         let (ls, read) = halfword-open standing ofPsw ofControl 0 found in
-        let (y, stands, same) = rest _ clock c ofPsw ofControl (read .stands text' t' marks) in
+        let (y, stands, same) = with-opcode r (sym known) (rest _ clock c ofPsw ofControl (read .stands text' t' marks)) in
         let step : instruction x ≡ fetchSecond (reading x text' ls) =
         rw (not-odd standing ofPsw ofControl 0 found, read .reached, isText) (ap (λ half. fetchSecond (reading x (firstText half) ls)) (read .half)) in
         (y, stands, step ∙ same)
 
-    pub second-open : (text' : Text) (r : Fetched) → 2 ≤ text .ilc → Halfword h g (seen psw control) 1 a (Open p 2 0)
-        → text' ≡ secondText text (halfAt (h .storage) p) → Fetches h g psw control text' t' fetchThird r → Fetches h g psw control text t fetchSecond r
+    pub second-open : (text' : Text) (r : Reading) → 2 ≤ text .ilc → Halfword h g (seen psw control) 1 a (Open p 2 0)
+        → text' ≡ secondText text (halfAt (h .storage) p) → Fetches h g psw control text' t' fetchThird (opcodeOf (text' .first)) r
+        → Fetches h g psw control text t fetchSecond (opcodeOf (text .first)) r
     unfolding fetchSecond whenReached
     second-open text' r more found isText rest x clock c ofPsw ofControl standing =
         let (ls, read) = halfword-open standing ofPsw ofControl 1 found in
-        let (y, stands, same) = rest _ clock c ofPsw ofControl (read .stands text' t' marks) in
+        let (y, stands, same) = with-opcode r (ap (λ u. opcodeOf (u .first)) isText) (rest _ clock c ofPsw ofControl (read .stands text' t' marks)) in
         let step : fetchSecond x ≡ fetchThird (reading x text' ls) =
         rw (long standing 2 more, read .reached, isText) (λ i. fetchThird (reading x (secondText (standing .ofText i) (read .half i)) ls)) in
         (y, stands, step ∙ same)
 
     pub third-open : 3 ≤ text .ilc → Halfword h g (seen psw control) 2 a (Open p 2 0)
-        → Fetches h g psw control text t fetchThird (whole (thirdText text (halfAt (h .storage) p)) t')
+        → Fetches h g psw control text t fetchThird (opcodeOf (text .first)) (whole (thirdText text (halfAt (h .storage) p)) t')
     unfolding fetchThird whenReached
     third-open more found x clock c ofPsw ofControl standing =
         let (ls, read) = halfword-open standing ofPsw ofControl 2 found in (

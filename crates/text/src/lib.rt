@@ -1,4 +1,5 @@
-// The fetch of an instruction's text: up to three halfwords, which stand on one page or two. Each contract equates with machine's Units.
+// The fetch of an instruction's text: up to three halfwords, which stand on one page or two, the first of which is looked up in the
+// table of opcodes. Each contract equates with machine's Units.
 ghost use mathlib.Core.Path.{_≡_};
 ghost use mathlib.Core.Bool.{false};
 ghost use Prim.Native.Nat.{ℕ, _+_, _%_, _≤_, _<_};
@@ -7,27 +8,36 @@ ghost use Rattle.machine.specs.declared.Cpu.{Cpu};
 ghost use Rattle.machine.specs.Refusals.{framesOf};
 ghost use Rattle.machine.specs.Words.{halfAt};
 ghost use Rattle.machine.specs.Host.{host, view};
+ghost use Rattle.machine.specs.Opcodes.{opcodeOf};
 ghost use Rattle.machine.specs.Units.{secondText, thirdText, fetchThird, fetchSecond, started, instruction};
 ghost use Rattle.storage.specs.Entered.{Entered};
 ghost use Rattle.address.specs.Touching.{seen};
 ghost use Rattle.address.specs.Operands.{operandOf};
 ghost use Rattle.execute.specs.After.{WithKeys};
-ghost use Rattle.text.specs.Fetching.{FetchedAs, Fetches, Usable, Halfword, noText, noFrames, oneFrame, EndsIn, cutShort, whole};
+ghost use Rattle.text.specs.Fetching.{FetchedAs, Fetches, Usable, Halfword, noText, noFrames, oneFrame, EndsIn, cutShort, whole, unfetched};
 use address::Operand;
 use execute::Frames;
+use machine::Class;
 use machine::Failure;
 use machine::Guest;
+use machine::Opcode;
 use machine::Psw;
 use machine::Registers;
 use machine::Text;
 
 // The text of an instruction as far as it is fetched, the frames it was fetched from, and why the next halfword was not where
 // `failed`.
-pub struct Fetched {
+pub struct Reading {
     pub failed: bool,
     pub failure: Failure,
     pub text: Text,
     pub frames: Frames,
+}
+
+// What is read of an instruction, and what the table of opcodes says of its first halfword.
+pub struct Fetched {
+    pub opcode: Opcode,
+    pub reading: Reading,
 }
 
 // What addressing looks at, beside the storage and the keys.
@@ -41,10 +51,10 @@ struct Addressing {
 const SPECIFICATION: u32 = 6;
 
 // The whole text.
-fn whole(text: Text, frames: Frames) -> Fetched
+fn whole(text: Text, frames: Frames) -> Reading
     ensures { λ r. ⌜ r ≡ whole text frames ⌝ }
 {
-    Fetched {
+    Reading {
         failed: false,
         failure: Failure {
             host: false,
@@ -57,10 +67,10 @@ fn whole(text: Text, frames: Frames) -> Fetched
 }
 
 // The text without its next halfword, which cannot be read.
-fn cut_short(failure: Failure, text: Text, frames: Frames) -> Fetched
+fn cut_short(failure: Failure, text: Text, frames: Frames) -> Reading
     ensures { λ r. ⌜ r ≡ cutShort failure text frames ⌝ }
 {
-    Fetched {
+    Reading {
         failed: true,
         failure,
         text,
@@ -70,8 +80,14 @@ fn cut_short(failure: Failure, text: Text, frames: Frames) -> Fetched
 
 // No halfword is fetched.
 fn unfetched(f: Failure) -> Fetched
-    ensures { λ r. ⌜ r ≡ cutShort f noText noFrames ⌝ }
+    ensures { λ r. ⌜ r ≡ unfetched f ⌝ }
 {
+    let opcode = Opcode {
+        length: 1,
+        privileged: false,
+        alignment: 1,
+        class: Class::Unassigned,
+    };
     let text = Text {
         ilc: 1,
         first: 0,
@@ -83,7 +99,8 @@ fn unfetched(f: Failure) -> Fetched
         first: 0,
         second: 0,
     };
-    cut_short(f, text, frames)
+    let reading = cut_short(f, text, frames);
+    Fetched { opcode, reading }
 }
 
 // The text with its second halfword.
@@ -141,11 +158,11 @@ fn third_page(
     frames: Frames,
     at: u32,
     operand: Operand,
-) -> Fetched
+) -> Reading
     requires { ⌜ Entered (by .guest) × (framesOf (now storage) ≤ length (now keys)) ⌝ }
     requires { ⌜ WithKeys (now keys) frames × (frames .count ≡ 1) × (text .ilc ≡ 3) ⌝ }
     requires { ⌜ Halfword (host (by .designation) (now storage) (now keys)) (by .guest) (seen (by .psw) (by .control)) 2 at operand ⌝ }
-    ensures { λ r. ⌜ Fetches (host (by .designation) (now (storage .entry)) (now (keys .entry))) (by .guest) (by .psw) (by .control) text frames fetchThird r ⌝ }
+    ensures { λ r. ⌜ Fetches (host (by .designation) (now (storage .entry)) (now (keys .entry))) (by .guest) (by .psw) (by .control) text frames fetchThird (opcodeOf (text .first)) r ⌝ }
     ensures { λ r. ⌜ Usable (now (keys .entry)) r ⌝ }
 {
     match operand {
@@ -174,11 +191,11 @@ fn fetch_third(
     frames: Frames,
     at: u32,
     place: u32,
-) -> Fetched
+) -> Reading
     requires { ⌜ Entered (by .guest) × (framesOf (now storage) ≤ length (now keys)) ⌝ }
     requires { ⌜ WithKeys (now keys) frames × (text .ilc ≤ 3) × EndsIn frames at place ⌝ }
     requires { ⌜ Halfword (host (by .designation) (now storage) (now keys)) (by .guest) (seen (by .psw) (by .control)) 1 at (Operand.Open place 2 0) ⌝ }
-    ensures { λ r. ⌜ Fetches (host (by .designation) (now (storage .entry)) (now (keys .entry))) (by .guest) (by .psw) (by .control) text frames fetchThird r ⌝ }
+    ensures { λ r. ⌜ Fetches (host (by .designation) (now (storage .entry)) (now (keys .entry))) (by .guest) (by .psw) (by .control) text frames fetchThird (opcodeOf (text .first)) r ⌝ }
     ensures { λ r. ⌜ Usable (now (keys .entry)) r ⌝ }
 {
     if text.ilc < 3 {
@@ -201,11 +218,11 @@ fn second_page(
     frames: Frames,
     at: u32,
     operand: Operand,
-) -> Fetched
+) -> Reading
     requires { ⌜ Entered (by .guest) × (framesOf (now storage) ≤ length (now keys)) ⌝ }
     requires { ⌜ WithKeys (now keys) frames × (frames .count ≡ 1) × (2 ≤ text .ilc) × (text .ilc ≤ 3) × (at % 4096 ≡ 0) ⌝ }
     requires { ⌜ Halfword (host (by .designation) (now storage) (now keys)) (by .guest) (seen (by .psw) (by .control)) 1 at operand ⌝ }
-    ensures { λ r. ⌜ Fetches (host (by .designation) (now (storage .entry)) (now (keys .entry))) (by .guest) (by .psw) (by .control) text frames fetchSecond r ⌝ }
+    ensures { λ r. ⌜ Fetches (host (by .designation) (now (storage .entry)) (now (keys .entry))) (by .guest) (by .psw) (by .control) text frames fetchSecond (opcodeOf (text .first)) r ⌝ }
     ensures { λ r. ⌜ Usable (now (keys .entry)) r ⌝ }
 {
     match operand {
@@ -234,10 +251,10 @@ fn fetch_second(
     text: Text,
     at: u32,
     place: u32,
-) -> Fetched
+) -> Reading
     requires { ⌜ Entered (by .guest) × (framesOf (now storage) ≤ length (now keys)) × (text .ilc ≤ 3) ⌝ }
     requires { ⌜ Halfword (host (by .designation) (now storage) (now keys)) (by .guest) (seen (by .psw) (by .control)) 0 at (Operand.Open place 2 0) ⌝ }
-    ensures { λ r. ⌜ Fetches (host (by .designation) (now (storage .entry)) (now (keys .entry))) (by .guest) (by .psw) (by .control) text (oneFrame place) fetchSecond r ⌝ }
+    ensures { λ r. ⌜ Fetches (host (by .designation) (now (storage .entry)) (now (keys .entry))) (by .guest) (by .psw) (by .control) text (oneFrame place) fetchSecond (opcodeOf (text .first)) r ⌝ }
     ensures { λ r. ⌜ Usable (now (keys .entry)) r ⌝ }
 {
     let frames = Frames {
@@ -261,8 +278,8 @@ fn fetch_second(
 fn fetch_first(storage: &[u8], keys: &[u8], by: Addressing, at: u32, operand: Operand) -> Fetched
     requires { ⌜ Entered (by .guest) × (framesOf (now storage) ≤ length (now keys)) ⌝ }
     requires { ⌜ Halfword (host (by .designation) (now storage) (now keys)) (by .guest) (seen (by .psw) (by .control)) 0 at operand ⌝ }
-    ensures { λ r. ⌜ Fetches (host (by .designation) (now (storage .entry)) (now (keys .entry))) (by .guest) (by .psw) (by .control) noText noFrames instruction r ⌝ }
-    ensures { λ r. ⌜ Usable (now (keys .entry)) r ⌝ }
+    ensures { λ r. ⌜ Fetches (host (by .designation) (now (storage .entry)) (now (keys .entry))) (by .guest) (by .psw) (by .control) noText noFrames instruction (r .opcode) (r .reading) ⌝ }
+    ensures { λ r. ⌜ Usable (now (keys .entry)) (r .reading) × (0 < r .opcode .alignment) ⌝ }
 {
     match operand {
         Operand::Shut(f) => unfetched(f),
@@ -272,13 +289,15 @@ fn fetch_first(storage: &[u8], keys: &[u8], by: Addressing, at: u32, operand: Op
             second: _,
         } => {
             let half = words::half_at(storage, place as usize);
+            let opcode = decode::decode(half);
             let text = Text {
-                ilc: decode::length_of(half),
+                ilc: opcode.length,
                 first: half as u16,
                 second: 0,
                 third: 0,
             };
-            fetch_second(storage, keys, by, text, at, place)
+            let reading = fetch_second(storage, keys, by, text, at, place);
+            Fetched { opcode, reading }
         }
     }
 }
@@ -295,8 +314,8 @@ pub fn fetch(
     requires { ⌜ Entered guest × (framesOf (now storage) ≤ length (now keys)) ⌝ }
     ensures { λ r. ⌜ ((c : Cpu) (clock : ℕ) → c .psw ≡ psw → c .control ≡ control
         → FetchedAs (host designation (now (storage .entry)) (now (keys .entry))) guest clock c
-        (instruction (started guest clock (view guest (host designation (now (storage .entry)) (now (keys .entry)))) c 1)) r) ⌝ }
-    ensures { λ r. ⌜ Usable (now (keys .entry)) r ⌝ }
+        (instruction (started guest clock (view guest (host designation (now (storage .entry)) (now (keys .entry)))) c 1)) (r .opcode) (r .reading)) ⌝ }
+    ensures { λ r. ⌜ Usable (now (keys .entry)) (r .reading) × (0 < r .opcode .alignment) ⌝ }
 {
     let address = cpu::instruction_address(psw);
     if address % 2 == 1 {

@@ -1,13 +1,14 @@
 // One unit of a guest: the list before it, the fetch of the text, the order of an instruction's tests, and the instruction. The
 // contract of unit equates how it ends, state, storage and keys with machine's unit put into effect.
 ghost use mathlib.Core.Path.{_≡_};
-ghost use mathlib.Core.Bool.{_&&_};
-ghost use Prim.Native.Nat.{ℕ, _≤_};
+ghost use mathlib.Core.Bool.{false, _&&_};
+ghost use Prim.Native.Nat.{ℕ, _≤_, _<_};
 ghost use lib.ListN.{length};
+ghost use Rattle.machine.specs.declared.Class.the-variants.{Unassigned};
 ghost use Rattle.machine.specs.Refusals.{framesOf};
 ghost use Rattle.machine.specs.Psw.{problemState};
-ghost use Rattle.machine.specs.Failures.{exceptionOf};
 ghost use Rattle.machine.specs.Host.{Host, host, view};
+ghost use Rattle.machine.specs.Opcodes.{sameClass};
 ghost use Rattle.machine.specs.Outcomes.{Progress};
 ghost use Rattle.machine.specs.Execute.{interceptInstruction, execute};
 ghost use Rattle.machine.specs.Units.{intercepts, decoded, started, instruction, unit};
@@ -21,7 +22,6 @@ use execute::Event;
 use execute::Frames;
 use machine::Class;
 use machine::Cpu;
-use machine::Failure;
 use machine::Guest;
 use machine::Opcode;
 use machine::Psw;
@@ -39,27 +39,14 @@ fn intercepts(class: Class, guest: Guest, text: Text) -> bool
     ensures { λ r. ⌜ ((x : Progress) → x .guest ≡ guest → x .text ≡ text → r ≡ intercepts class x) ⌝ }
 {
     match class {
-        Class::Lr => false,
-        Class::Ar => false,
-        Class::Sr => false,
-        Class::Bcr => false,
         Class::Svc => cpu::intercepts_svc(guest, text.first as u32 % 256),
-        Class::La => false,
-        Class::Bc => false,
-        Class::St => false,
-        Class::L => false,
         Class::Lpsw => guest.interceptions / 32 % 2 == 1,
-        Class::Stctl => false,
         Class::Lctl => cpu::intercepts_lctl(
             guest,
             text.first as u32 / 16 % 16,
             cpu::range_count(text),
         ),
-        Class::Stck => false,
-        Class::Spt => false,
-        Class::Stpt => false,
-        Class::Mandatory => false,
-        Class::Unassigned => false,
+        _ => false,
     }
 }
 
@@ -76,6 +63,16 @@ fn intercept_instruction(cpu: Cpu, text: Text) -> Done
     )
 }
 
+// No instruction has the opcode.
+fn unassigned(class: Class) -> bool
+    ensures { λ r. ⌜ r ≡ sameClass class Unassigned ⌝ }
+{
+    match class {
+        Class::Unassigned => true,
+        _ => false,
+    }
+}
+
 // A privileged operation in problem state.
 fn forbidden(privileged: bool, psw: Psw) -> bool
     ensures { λ r. ⌜ ((c : Cpu) → c .psw ≡ psw → r ≡ (privileged && problemState c)) ⌝ }
@@ -84,17 +81,6 @@ fn forbidden(privileged: bool, psw: Psw) -> bool
         return cpu::problem_state(psw);
     }
     false
-}
-
-// A guest program exception with no address.
-fn exception_of(code: u32) -> Failure
-    ensures { λ r. ⌜ r ≡ exceptionOf code ⌝ }
-{
-    Failure {
-        host: false,
-        code,
-        address: 0,
-    }
 }
 
 // No text: the instruction length code is 0.
@@ -142,14 +128,14 @@ fn perform(
         Class::Stpt => stores::store_timer(storage, keys, designation, guest, cpu, text, t),
         Class::Mandatory => intercept_instruction(cpu, text),
         Class::Unassigned => {
-            let f = exception_of(OPERATION);
+            let f = address::exception_of(OPERATION);
             execute::excepted(storage, keys, designation, guest, cpu, text, t, f)
         }
     }
 }
 
-// An instruction whose text is fetched: privilege, interception and alignment are tested before its operand.
-fn decoded(
+// An instruction of an assigned opcode: privilege, interception and alignment are tested before its operand.
+fn assigned(
     storage: &mut [u8],
     keys: &mut [u8],
     designation: u32,
@@ -160,11 +146,11 @@ fn decoded(
     t: Frames,
     o: Opcode,
 ) -> Done
-    requires { ⌜ Ready (now storage) (now keys) guest text t ⌝ }
+    requires { ⌜ Ready (now storage) (now keys) guest text t × (0 < o .alignment) × (sameClass (o .class) Unassigned ≡ false) ⌝ }
     ensures { λ r. ⌜ Does (λ x. decoded x o) (host designation (now (storage .entry)) (now (keys .entry))) guest clock cpu text t r (now (storage .exit)) (now (keys .exit)) ⌝ }
 {
     if forbidden(o.privileged, cpu.psw) {
-        let f = exception_of(PRIVILEGED_OPERATION);
+        let f = address::exception_of(PRIVILEGED_OPERATION);
         return execute::excepted(storage, keys, designation, guest, cpu, text, t, f);
     }
     let class = o.class;
@@ -172,8 +158,8 @@ fn decoded(
         return intercept_instruction(cpu, text);
     }
     let a = cpu::operand_address(cpu.psw, cpu.general, text);
-    if cpu::misaligned(class, a) {
-        let f = exception_of(SPECIFICATION);
+    if cpu::misaligned(o.alignment, a) {
+        let f = address::exception_of(SPECIFICATION);
         return execute::excepted(storage, keys, designation, guest, cpu, text, t, f);
     }
     perform(
@@ -187,6 +173,29 @@ fn decoded(
         text,
         t,
     )
+}
+
+// An instruction whose text is fetched: the operation is tested first.
+fn decoded(
+    storage: &mut [u8],
+    keys: &mut [u8],
+    designation: u32,
+    guest: Guest,
+    clock: u64,
+    cpu: Cpu,
+    text: Text,
+    t: Frames,
+    o: Opcode,
+) -> Done
+    requires { ⌜ Ready (now storage) (now keys) guest text t × (0 < o .alignment) ⌝ }
+    ensures { λ r. ⌜ Does (λ x. decoded x o) (host designation (now (storage .entry)) (now (keys .entry))) guest clock cpu text t r (now (storage .exit)) (now (keys .exit)) ⌝ }
+{
+    let class = o.class;
+    if unassigned(class) {
+        let f = address::exception_of(OPERATION);
+        return execute::excepted(storage, keys, designation, guest, cpu, text, t, f);
+    }
+    assigned(storage, keys, designation, guest, clock, cpu, text, t, o)
 }
 
 // The instruction at the PSW's address.
@@ -203,22 +212,14 @@ fn instruction(
         (instruction (started guest clock (view guest (host designation (now (storage .entry)) (now (keys .entry)))) cpu 1)) r (now (storage .exit)) (now (keys .exit)) ⌝ }
 {
     let fetched = text::fetch(storage, keys, designation, guest, cpu.psw, cpu.control);
-    let words = fetched.text;
-    let frames = fetched.frames;
-    if fetched.failed {
-        let failure = fetched.failure;
-        return execute::excepted(
-            storage,
-            keys,
-            designation,
-            guest,
-            cpu,
-            words,
-            frames,
-            failure,
-        );
+    let opcode = fetched.opcode;
+    let reading = fetched.reading;
+    let text = reading.text;
+    let t = reading.frames;
+    if reading.failed {
+        let f = reading.failure;
+        return execute::excepted(storage, keys, designation, guest, cpu, text, t, f);
     }
-    let opcode = decode::decode(words.first as u32);
     decoded(
         storage,
         keys,
@@ -226,8 +227,8 @@ fn instruction(
         guest,
         clock,
         cpu,
-        words,
-        frames,
+        text,
+        t,
         opcode,
     )
 }
@@ -253,7 +254,7 @@ fn unit_after(
             cpu.psw,
         ),
         Before::Malformed => {
-            let f = exception_of(SPECIFICATION);
+            let f = address::exception_of(SPECIFICATION);
             let none = Frames {
                 count: 0,
                 first: 0,

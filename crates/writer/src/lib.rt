@@ -27,6 +27,22 @@ fn put_bytes(part: &mut [u8], bytes: &[u8])
     }
 }
 
+// A word, over a part of storage that is as long.
+fn put_word_part(part: &mut [u8], value: u32)
+    requires { ⌜ length (now part) ≡ 4 ⌝ }
+    ensures { λ _. ⌜ now (part .exit) ≡ wordBytes value ⌝ }
+{
+    words::put_word(part, 0, value);
+}
+
+// A double word, over a part of storage that is as long.
+fn put_double_part(part: &mut [u8], value: u64)
+    requires { ⌜ length (now part) ≡ 8 ⌝ }
+    ensures { λ _. ⌜ now (part .exit) ≡ doubleBytes value ⌝ }
+{
+    words::put_double(part, 0, value);
+}
+
 // Bytes, stored from an address on.
 fn put_part(storage: &mut [u8], at: usize, bytes: &[u8])
     requires { ⌜ at + length (now bytes) ≤ length (now storage) ⌝ }
@@ -56,11 +72,13 @@ pub fn put_word_operand(storage: &mut [u8], value: u32, first: u32, count: u32, 
     ensures { λ _. ⌜ now (storage .exit) ≡ sets (sets (now (storage .entry)) first (take count (wordBytes value))) second (drop count (wordBytes value)) ⌝ }
 {
     if count as usize == WORD {
-        words::put_word(storage, first as usize, value);
+        let at = first as usize;
+        let end = at + WORD;
+        put_word_part(&mut storage[at..end], value);
         return;
     }
     let mut bytes = [0; WORD];
-    words::put_word(&mut bytes[..], 0, value);
+    put_word_part(&mut bytes[..], value);
     put_operand(storage, &bytes[..], first, count, second);
 }
 
@@ -72,11 +90,13 @@ pub fn put_double_operand(storage: &mut [u8], value: u64, first: u32, count: u32
     ensures { λ _. ⌜ now (storage .exit) ≡ sets (sets (now (storage .entry)) first (take count (doubleBytes value))) second (drop count (doubleBytes value)) ⌝ }
 {
     if count as usize == DOUBLE {
-        words::put_double(storage, first as usize, value);
+        let at = first as usize;
+        let end = at + DOUBLE;
+        put_double_part(&mut storage[at..end], value);
         return;
     }
     let mut bytes = [0; DOUBLE];
-    words::put_double(&mut bytes[..], 0, value);
+    put_double_part(&mut bytes[..], value);
     put_operand(storage, &bytes[..], first, count, second);
 }
 

@@ -7,10 +7,9 @@ use mathlib.Core.List.{[], _∷_, List}
 use mir.Syntax.{named, w32}
 use mir.Val.{Val, vunit, vint, vptr}
 use Rattle.machine.specs.declared.Cpu.{Cpu}
-use Rattle.machine.specs.Psw.{general}
-use Rattle.machine.specs.Execute.{sumOf, sumOverflows, withSum}
 use Rattle.machine.proofs.Cpu as T
 use Rattle.machine.proofs.Cpu.Laws as T′
+use Rattle.adder.specs.Adding.{added}
 use Rattle.adder.proofs.add_registers as g
 use Rattle.adder.proofs.add_registers.Symbol as g-def
 use Rattle.adder.proofs.add_registers.Symbol.{name as #adder·add-registers}
@@ -54,10 +53,6 @@ use denote.Exit.{yes}
 
 abbrev Arg : Type 0
 Arg = RefT Cpu × (ℕ × (ℕ × Unit {0}))
-
--- the record after the add
-abbrev added : Cpu → ℕ → ℕ → Cpu
-added h i j = withSum h i (sumOf (general h i) (general h j)) (sumOverflows (general h i) (general h j))
 
 abbrev vals : Cpu → List Val
 vals = LL.vals T.the-type T′.the-laws

@@ -1,7 +1,6 @@
 -- `adder::add_registers` meets its contract.
 -- Assumes nothing.
 use borrow.Author.Needs.{needs}
-use Rattle.adder.proofs.Codes.{sum-code-below-four}
 use Rattle.adder.proofs.add_registers.Statement.{statement}
 use Rattle.adder.proofs.add_registers.Tie as tie
 
@@ -23,7 +22,6 @@ add-requires c κs = search needs
 with-sum-requires : tie.Need-with-sum-requires
 with-sum-requires c κs = (
   search needs,
-  rw (c .add .ensures .2) (sum-code-below-four _ _),
   rw (c .add .ensures .0, c .add .ensures .1) (c .add .ensures .2),
 )
 

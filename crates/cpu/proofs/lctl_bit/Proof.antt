@@ -3,7 +3,8 @@
 use native.Mathlib.Nat.{le-antisymm, le-of-suc-le-suc, div-one}
 use mathlib.Core.Path.{_≡_}
 use borrow.Author.Needs.{needs}
-use Rattle.cpu.proofs.Lctl.{bit-of-key, past-the-keys}
+use Rattle.machine.proofs.Tests.{past-the-keys}
+use Rattle.cpu.proofs.Lctl.{bit-of-key}
 use Rattle.cpu.proofs.lctl_bit.Statement.{statement}
 use Rattle.cpu.proofs.lctl_bit.Tie as tie
 

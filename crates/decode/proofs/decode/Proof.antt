@@ -18,6 +18,9 @@ abbrev μ-loop : tie.MeasureT-loop
 number-of-requires : tie.Need-number-of-requires Inv-loop μ-loop
 number-of-requires c κs = search needs
 
+cast-number : tie.Need-cast-number Inv-loop μ-loop
+cast-number c = search needs
+
 rows-requires : tie.Need-rows-requires Inv-loop μ-loop
 rows-requires c κs = search needs
 
@@ -30,8 +33,14 @@ mul-row c = search needs
 array-read-row : tie.Need-array-read-row Inv-loop μ-loop
 array-read-row c = search needs
 
-cast-t14 : tie.Need-cast-t14 Inv-loop μ-loop
-cast-t14 c = search needs
+cast-t15 : tie.Need-cast-t15 Inv-loop μ-loop
+cast-t15 c = search needs
+
+cast-t21 : tie.Need-cast-t21 Inv-loop μ-loop
+cast-t21 c = search needs
+
+cast-class-of : tie.Need-cast-class-of Inv-loop μ-loop
+cast-class-of c = search needs
 
 class-of-requires : tie.Need-class-of-requires Inv-loop μ-loop
 class-of-requires c κs =
@@ -78,7 +87,8 @@ returns-2 c =
     (c .before .before .loop .k)
     (c .before .before .loop .inv)
     (search needs)
-    (c .length-of .ensures .0)
+    (c .length-of .ensures)
+    refl
     refl
     refl
 
@@ -89,11 +99,14 @@ decode-spec =
     Inv-loop
     μ-loop
     number-of-requires
+    cast-number
     rows-requires
     loop-holds
     mul-row
     array-read-row
-    cast-t14
+    cast-t15
+    cast-t21
+    cast-class-of
     class-of-requires
     returns
     add-k

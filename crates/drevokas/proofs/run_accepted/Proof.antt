@@ -3,7 +3,7 @@
 use Rattle.machine.specs.Record.{withResults}
 use borrow.Author.Needs.{needs}
 use mathlib.Core.Path.{refl, ap, sym, _∙_}
-use Rattle.drevokas.proofs.Accepting.{entered}
+use Rattle.storage.proofs.Entering.{entered}
 use Rattle.drevokas.proofs.Running.{run-length, run-keys, gives-run, gives-validity}
 use Rattle.drevokas.proofs.run_accepted.Statement.{statement}
 use Rattle.drevokas.proofs.run_accepted.Tie as tie

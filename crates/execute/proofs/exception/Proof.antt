@@ -1,6 +1,5 @@
 -- `execute::exception` meets its contract.
 -- Assumes nothing.
-use native.Mathlib.Omega.{arith}
 use mathlib.Core.Path.{refl, ap, sym, subst, _∙_}
 use borrow.Author.Tests.{eq-eqb, ne-eqb}
 use borrow.Author.Needs.{needs}
@@ -64,25 +63,17 @@ returns-3 c =
     (c .ended-with2 .result) (ap (λ d. d .event) (c .ended-with2 .ensures))
     (ap (leftBy k) (c .ended-with2 .ensures) ∙ back6 .after-exception .ensures x (leftBy k (a .after)) (a .f) (ap (λ t. t .ilc) (standing .ofText)) refl refl)
 
-cast-t22 : tie.Need-cast-t22
-cast-t22 c = search needs
-
-mul-t23 : tie.Need-mul-t23
-mul-t23 c = search needs
-
-add-t24 : tie.Need-add-t24
-add-t24 c = search needs
-
-translation-requires : tie.Need-translation-requires
-translation-requires c κs = search needs
+program-interruption-requires : tie.Need-program-interruption-requires
+program-interruption-requires c κs = search needs
 
 ended-with-requires-3 : tie.Need-ended-with-requires-3
 ended-with-requires-3 c κs = search needs
 
 interrupt-requires : tie.Need-interrupt-requires
 interrupt-requires c κs =
-    let pre = c .before .before .before .before .before .before .before .before .before .before .before .before .before .before .pre in
-    (pre .0 .0, pre .0 .1, pre .0 .2, (omega arith, omega arith, omega arith))
+    let back3 = c .before .before .before in
+    let pre = back3 .before .before .before .before .before .before .before .before .before .pre in
+    (pre .0 .0, pre .0 .1, pre .0 .2, back3 .program-interruption .ensures .0)
 
 same-length : tie.Need-same-length
 same-length c = search needs
@@ -96,19 +87,20 @@ returns-4 c =
     let back4 = c .before .before .before .before in
     let back7 = back4 .before .before .before in
     let back8 = back7 .before in
-    let back11 = back8 .before .before .before in
-    let back13 = back11 .before .before in
+    let back9 = back8 .before in
+    let back11 = back9 .before .before in
+    let back12 = back11 .before in
+    let back13 = back12 .before in
     let back14 = back13 .before in
-    let back15 = back14 .before in
-    let back16 = back15 .before in
-    let back19 = back16 .before .before .before in
-    let a = back19 .args in
+    let back17 = back14 .before .before .before in
+    let a = back17 .args in
+    let i = back8 .program-interruption .ensures in
     λ x clock k standing before.
-    excepted-interruption (host (a .designation) _ _) x standing (leftBy k (a .after)) (a .f) (back16 .if1 .left)
-    (sym (back14 .intercepts-operation .ensures) ∙ back13 .if2 .left) (ne-eqb _ 1 (back11 .if3 .left)) (back19 .pre .1 .0)
-    (back19 .pre .1 .1) (back4 .interrupt .result) (leftBy k (back7 .ended-with3 .result))
-    (ap (leftBy k) (back7 .ended-with3 .ensures) ∙ back15 .after-exception .ensures x (leftBy k (a .after)) (a .f) (ap (λ t. t .ilc) (standing .ofText)) refl refl)
-    (back8 .translation .ensures)
+    let told = ap (λ t. t .ilc) (standing .ofText) in
+    excepted-interruption (host (a .designation) _ _) x standing (leftBy k (a .after)) (a .f) (back14 .if1 .left)
+    (sym (back12 .intercepts-operation .ensures) ∙ back11 .if2 .left) (ne-eqb _ 1 (back9 .if3 .left)) (back4 .interrupt .result)
+    (ap (leftBy k) (back7 .ended-with3 .ensures) ∙ back13 .after-exception .ensures x (leftBy k (a .after)) (a .f) told refl refl)
+    (i .1) (i .2 x told)
     (back4 .interrupt .ensures x clock k (a .text) standing (subst (Before k (a .start)) (sym (back7 .ended-with3 .ensures)) (record { ofPsw = before .ofPsw; ofTimer = before .ofTimer; ofControl = before .ofControl; sixteen = before .sixteen })))
 
 pub exception-spec : {M : Type 1} → statement M
@@ -124,10 +116,7 @@ exception-spec =
     cast-t20
     ended-with-requires-2
     returns-3
-    cast-t22
-    mul-t23
-    add-t24
-    translation-requires
+    program-interruption-requires
     ended-with-requires-3
     interrupt-requires
     same-length

@@ -1,4 +1,4 @@
--- `execute::interrupt_open` meets its contract.
+-- `execute::interrupt_open` meets its contract. What is stored in the frame's part is stored at the frame's address.
 -- Assumes nothing.
 use mathlib.Core.Path.{ap, _∙_}
 use borrow.Author.Needs.{needs}
@@ -7,6 +7,7 @@ use Rattle.machine.specs.Psw.{withPsw}
 use Rattle.machine.specs.Host.{referenced, changed}
 use Rattle.address.specs.Operands.{markFrame}
 use Rattle.execute.specs.After.{leftBy}
+use Rattle.execute.proofs.Leaving.{areas-in-frame}
 use Rattle.execute.proofs.interrupt_open.Statement.{statement}
 use Rattle.execute.proofs.interrupt_open.Tie as tie
 
@@ -34,17 +35,23 @@ add-word-at-3 c = search needs
 word-at-requires-2 : tie.Need-word-at-requires-2
 word-at-requires-2 c κs = search needs
 
+add-end : tie.Need-add-end
+add-end c = search needs
+
+sub-put-areas : tie.Need-sub-put-areas
+sub-put-areas c = search needs
+
+part-put-areas-start : tie.Need-part-put-areas-start
+part-put-areas-start c = search needs
+
+part-put-areas-end : tie.Need-part-put-areas-end
+part-put-areas-end c = search needs
+
 cast-put-areas : tie.Need-cast-put-areas
 cast-put-areas c = search needs
 
-add-put-areas : tie.Need-add-put-areas
-add-put-areas c = search needs
-
 cast-put-areas-2 : tie.Need-cast-put-areas-2
 cast-put-areas-2 c = search needs
-
-add-put-areas-2 : tie.Need-add-put-areas-2
-add-put-areas-2 c = search needs
 
 put-areas-requires : tie.Need-put-areas-requires
 put-areas-requires c κs = search needs
@@ -53,7 +60,10 @@ mark-text-requires : tie.Need-mark-text-requires
 mark-text-requires c κs = search needs
 
 mark-fetched-requires : tie.Need-mark-fetched-requires
-mark-fetched-requires c κs = search needs
+mark-fetched-requires c κs =
+    let back20 = c .before .before .before .before .before .before .before .before .before .before .before .before .before .before .before .before .before .before .before .before in
+    let key = back20 .pre .0 .1 in
+    search needs
 
 mark-stored-requires : tie.Need-mark-stored-requires
 mark-stored-requires c κs =
@@ -83,7 +93,7 @@ returns c =
     let ended = c .ended-with .ensures in
     let fetched = back7 .mark-fetched .ensures ∙ ap (markFrame referenced (a .frame)) (back11 .mark-text .ensures) in (
       (ap (λ d. d .event) ended, λ k. ap (leftBy k) ended ∙ ap (withPsw (leftBy k (a .after))) (λ i. record { left = back23 .word-at .ensures i; right = back20 .word-at2 .ensures i })),
-      (back15 .put-areas .ensures, c .before .before .before .mark-stored .ensures ∙ ap (markFrame changed (a .frame)) fetched),
+      (rw (back15 .put-areas .ensures) (areas-in-frame (a .storage .now) (a .frame) (a .after .psw) (a .i) (back28 .pre .1 .0) (back28 .pre .1 .1)), c .before .before .before .mark-stored .ensures ∙ ap (markFrame changed (a .frame)) fetched),
     )
 
 pub interrupt-open-spec : {M : Type 1} → statement M
@@ -98,10 +108,12 @@ interrupt-open-spec =
     add-word-at-2
     add-word-at-3
     word-at-requires-2
+    add-end
+    sub-put-areas
+    part-put-areas-start
+    part-put-areas-end
     cast-put-areas
-    add-put-areas
     cast-put-areas-2
-    add-put-areas-2
     put-areas-requires
     mark-text-requires
     mark-fetched-requires

@@ -45,8 +45,8 @@ returns c =
     ∙ ap (λ t. sets t (back18 .args .code) (wordBytes (back18 .args .word)))
     (back11 .put-word2 .ensures
     ∙ ap (λ t. sets t (back18 .args .old + 4) (wordBytes (back18 .args .psw .right))) (back15 .put-word .ensures)
-    ∙ two-words (back18 .args .storage .now) (back18 .args .old) (wordBytes (back18 .args .psw .left)) (wordBytes (back18 .args .psw .right)) refl))
-    ∙ two-words (sets (back18 .args .storage .now) (back18 .args .old) (pswBytes (back18 .args .psw))) (back18 .args .code) (wordBytes (back18 .args .word)) (wordBytes (back18 .args .address)) refl)
+    ∙ two-words (back18 .args .part .now) (back18 .args .old) (wordBytes (back18 .args .psw .left)) (wordBytes (back18 .args .psw .right)) refl))
+    ∙ two-words (sets (back18 .args .part .now) (back18 .args .old) (pswBytes (back18 .args .psw))) (back18 .args .code) (wordBytes (back18 .args .word)) (wordBytes (back18 .args .address)) refl)
 
 same-length-2 : tie.Need-same-length-2
 same-length-2 c = search needs
@@ -61,7 +61,7 @@ returns-2 c =
     ∙ ap (λ t. sets t (back14 .args .code) (wordBytes (back14 .args .word)))
     (back7 .put-word2 .ensures
     ∙ ap (λ t. sets t (back14 .args .old + 4) (wordBytes (back14 .args .psw .right))) (back11 .put-word .ensures)
-    ∙ two-words (back14 .args .storage .now) (back14 .args .old) (wordBytes (back14 .args .psw .left)) (wordBytes (back14 .args .psw .right)) refl))
+    ∙ two-words (back14 .args .part .now) (back14 .args .old) (wordBytes (back14 .args .psw .left)) (wordBytes (back14 .args .psw .right)) refl))
 
 pub put-areas-spec : {M : Type 1} → statement M
 put-areas-spec =

@@ -20,20 +20,11 @@ excepted-requires c κs =
 enum-known-operand-2 : tie.Need-enum-known-operand-2
 enum-known-operand-2 c = search needs
 
-mark-text-requires : tie.Need-mark-text-requires
-mark-text-requires c κs = search needs
-
-mark-operand-requires : tie.Need-mark-operand-requires
-mark-operand-requires c κs =
+reach-open-requires : tie.Need-reach-open-requires
+reach-open-requires c κs =
     let back6 = c .before .before .before .before .before .before in
-    let back10 = back6 .before .before .before .before in
-    let inside = subst (InReach _ _ _) (back6 .operand2 .given .1) (back10 .pre .1) in
-    let first = inside .3 in
-    let second = inside .4 in
-    (search (needs, first), λ more. let later = second more in search (needs, later))
-
-with-psw-requires : tie.Need-with-psw-requires
-with-psw-requires c κs = search needs
+    let inside = subst (InReach _ _ _) (c .before .before .operand2 .given .1) (back6 .pre .1) in
+    (back6 .pre .0 .withKeys, (inside .3, inside .4))
 
 same-length : tie.Need-same-length
 same-length c = search needs
@@ -58,14 +49,13 @@ same-length-3 c = search needs
 
 returns-2 : tie.Need-returns-2
 returns-2 c =
-    let back7 = c .before .before .before .before .before .before .before in
-    let back10 = back7 .before .before .before in
-    let back14 = back10 .before .before .before .before in
-    let inside = subst (InReach _ _ _) (back10 .operand2 .given .1) (back14 .pre .1) in (
+    let (shut, first, count, second) = c .before .before .reach-open .ensures .0 in
+    let found = c .before .before .before .before .before .operand2 .given .1 in
+    let back9 = c .before .before .before .before .before .before .before .before .before in
+    let inside = subst (InReach _ _ _) found (back9 .pre .1) in (
       λ x clock standing.
-          subst (Reaches _ _ x _ _ _ _ _ _ _) (sym (back10 .operand2 .given .1))
-          (refl, refl, refl, refl, refl, rw (c .before .before .before .mark-operand .ensures, back7 .mark-text .ensures) refl),
-      record { few = λ e. inside .0; first = λ e. inside .1; second = λ e. inside .2 },
+          subst (Reaches _ _ x _ _ _ _ _ _ _) (sym found) (shut, first, count, second, refl, c .before .before .reach-open .ensures .1),
+      record { few = λ e. rw count (inside .0); first = λ e. rw (first, count) (inside .1); second = λ e. rw (second, count) (inside .2) },
     )
 
 pub reach-by-spec : {M : Type 1} → statement M
@@ -75,9 +65,7 @@ reach-by-spec =
     enum-known-operand
     excepted-requires
     enum-known-operand-2
-    mark-text-requires
-    mark-operand-requires
-    with-psw-requires
+    reach-open-requires
     same-length
     same-length-2
     returns

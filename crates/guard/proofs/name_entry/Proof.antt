@@ -2,7 +2,7 @@
 -- Assumes nothing.
 use mathlib.Core.Path.{refl, sym, ap, _∙_}
 use borrow.Author.Needs.{needs}
-use Rattle.machine.specs.declared.TableEntry.the-variants.{Word}
+use Rattle.machine.specs.declared.TableEntry.the-variants.{Word, Unread}
 use Rattle.address.specs.Touching.{entryBehind}
 use Rattle.guard.proofs.Guarded.{entry-above, entry-failed, entry-found, entry-is, entry-past, entry-fits}
 use Rattle.guard.proofs.name_entry.Statement.{statement}
@@ -17,14 +17,18 @@ cast-if1 c = search needs
 mul-if1 : tie.Need-mul-if1
 mul-if1 c = search needs
 
+exception-of-requires : tie.Need-exception-of-requires
+exception-of-requires c κs = search needs
+
 returns : tie.Need-returns
 returns c =
-    let start = c .before .before .before .before .before in
-    let at = c .before .before .prefixed .ensures in (
+    let above = c .before .if1 .taken in
+    let start = c .before .before .before .before .before .before in
+    let at = c .before .before .before .prefixed .ensures in (
       λ frame named. named,
       (
-        entry-above (start .args .guest) (start .args .designation) (start .args .storage .now) (start .args .real) (start .pre .2) _ at _ (c .if1 .taken),
-        entry-past (start .args .guest) (start .args .designation) (start .args .storage .now) (start .args .real) (start .pre .2) _ at (c .if1 .taken),
+        entry-above (start .args .guest) (start .args .designation) (start .args .storage .now) (start .args .real) (start .pre .2) _ at _ above,
+        λ k. ap Unread (c .exception-of .ensures) ∙ entry-past (start .args .guest) (start .args .designation) (start .args .storage .now) (start .args .real) (start .pre .2) _ at above k,
       ),
     )
 
@@ -112,6 +116,7 @@ name-entry-spec =
     prefixed-requires
     cast-if1
     mul-if1
+    exception-of-requires
     returns
     cast-name-host
     mul-name-host

@@ -18,14 +18,18 @@ returns c =
 element-copy-out-cr0 : tie.Need-element-copy-out-cr0
 element-copy-out-cr0 c = search needs
 
+exception-of-requires : tie.Need-exception-of-requires
+exception-of-requires c κs = search needs
+
 returns-2 : tie.Need-returns-2
 unfolding formatGood
 returns-2 c =
-    let start = c .before .before .before .before .before .before in (
+    let start = c .before .before .before .before .before .before .before in (
       λ frame named. named,
-      real-malformed _ (start .args .guest) (start .args .designation) (start .args .storage .now) (seen (start .args .psw) _) (start .args .a)
-          (eq-eqb _ _ (c .before .before .if1 .left))
-          (ne-eqb _ _ (c .if2 .taken)),
+      rw (c .exception-of .ensures)
+          (real-malformed _ (start .args .guest) (start .args .designation) (start .args .storage .now) (seen (start .args .psw) _) (start .args .a)
+          (eq-eqb _ _ (c .before .before .before .if1 .left))
+          (ne-eqb _ _ (c .before .if2 .taken))),
     )
 
 element-copy-out-cr1 : tie.Need-element-copy-out-cr1
@@ -82,6 +86,7 @@ name-tables-spec =
     (tie.spec
     returns
     element-copy-out-cr0
+    exception-of-requires
     returns-2
     element-copy-out-cr1
     table-leads-requires

@@ -2,10 +2,9 @@
 -- Assumes nothing.
 use native.Mathlib.Omega.{arith}
 use mathlib.Core.Path.{refl}
-use mathlib.Core.Bool.{false}
 use borrow.Author.Needs.{needs}
 use Rattle.machine.specs.declared.Class.the-variants.{La, Bc, L, St}
-use Rattle.machine.specs.Opcodes.{row, find, opcodeOf}
+use Rattle.machine.specs.Opcodes.{find, opcodeOf}
 use Rattle.quick.proofs.Deciding.{length-two, listed, left-alone}
 use Rattle.quick.proofs.Indexing.{decided-la, decided-bc, decided-l, decided-st}
 use Rattle.quick.proofs.indexed_step.Statement.{statement}
@@ -47,9 +46,9 @@ returns c =
     let args = start .args in
     let a = back4 .before .indexed in
     let step = c .before .before .set-step in
-    let known = listed (args .first) 0x41 (row 0x41 false La) (search needs) refl refl in
+    let known = listed (args .first) 0x41 La (search needs) refl refl in
     decided-la _ _ _ (args .psw) (args .kept) (args .first) (args .second) (args .value) (args .index) (args .base) (step .result) _ _ (a .result) (a .ensures .2)
-    (opcodeOf (args .first)) (known .1) (known .0)
+    (opcodeOf (args .first)) known
     (step .ensures _ _ (args .first) (args .second) (args .value) (args .index) (args .base) (length-two (args .first) (start .pre .1 .0) (start .pre .1 .1)) refl)
 
 same-length-2 : tie.Need-same-length-2
@@ -63,9 +62,9 @@ returns-2 c =
     let args = start .args in
     let a = back5 .before .indexed in
     let step = c .before .before .branch-step in
-    let known = listed (args .first) 0x47 (row 0x47 false Bc) (search needs) refl refl in
+    let known = listed (args .first) 0x47 Bc (search needs) refl refl in
     decided-bc _ _ _ (args .psw) (args .kept) (args .first) (args .second) (args .value) (args .index) (args .base) (step .result) _ _ (a .result) (a .ensures .2)
-    (opcodeOf (args .first)) (known .1) (c .before .before .before .selects .result) (c .before .before .before .selects .ensures) (known .0)
+    (opcodeOf (args .first)) (c .before .before .before .selects .result) (c .before .before .before .selects .ensures) known
     (step .ensures _ _ (args .first) (args .second) (args .value) (args .index) (args .base) (length-two (args .first) (start .pre .1 .0) (start .pre .1 .1)))
 
 same-length-3 : tie.Need-same-length-3
@@ -82,9 +81,9 @@ returns-3 c =
     let args = start .args in
     let a = back5 .before .indexed in
     let step = c .before .before .load-step in
-    let known = listed (args .first) 0x58 (row 0x58 false L) (search needs) refl refl in
+    let known = listed (args .first) 0x58 L (search needs) refl refl in
     decided-l _ _ _ (args .psw) (args .kept) (args .first) (args .second) (args .value) (args .index) (args .base) (step .result) _ _ (a .result) (a .ensures .2)
-    (opcodeOf (args .first)) (known .1) (known .0)
+    (opcodeOf (args .first)) known
     (step .ensures _ (args .second) (args .value) (args .index) (args .base))
 
 same-length-5 : tie.Need-same-length-5
@@ -101,9 +100,9 @@ returns-4 c =
     let args = start .args in
     let a = back7 .before .indexed in
     let step = c .before .before .before .before .store-step in
-    let known = listed (args .first) 0x50 (row 0x50 false St) (search needs) refl refl in
+    let known = listed (args .first) 0x50 St (search needs) refl refl in
     decided-st _ _ _ (args .psw) (args .kept) (args .first) (args .second) (args .value) (args .index) (args .base) (step .result) _ _ (a .result) (a .ensures .2)
-    (opcodeOf (args .first)) (known .1) (known .0)
+    (opcodeOf (args .first)) known
     (step .ensures (args .first) (args .second) (args .value) (args .index) (args .base) (start .pre .1 .0) (start .pre .1 .1))
 
 returns-5 : tie.Need-returns-5

@@ -7,7 +7,7 @@ use mathlib.Core.Path.{refl, ap, sym, _∙_}
 use mir.Syntax.{w32}
 use mir.Val.{Fits}
 use Rattle.machine.specs.Psw.{withConditionCode}
-use Rattle.registers.proofs.Ending.{small-code}
+use Rattle.adder.proofs.Sums.{small-code}
 use Rattle.quick.proofs.Completing.{sum-done}
 use Rattle.quick.proofs.Deciding.{length-one, left-alone}
 use Rattle.quick.proofs.Sparing.{advance-spares, code-spares}

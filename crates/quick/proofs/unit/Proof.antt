@@ -81,8 +81,8 @@ returns-2 c =
     let none : text .result .want ≡ 0 = omega (arith, back10 .if1 .left) in (
       λ done. (
         λ h g clock k stored keyed same general sixteen kept.
-            fetch-whole h g clock k (whole (shortText first second) (textFrame (a .kept))) (doneOf k (step .result)) (text .ensures .0 none h g clock k stored same (kept .text))
-            refl (opcodeOf first) refl
+            fetch-whole h g clock k (opcodeOf first) (whole (shortText first second) (textFrame (a .kept))) (doneOf k (step .result)) (text .ensures .0 none h g clock k stored same (kept .text))
+            refl
             (step .ensures .0 done .0 h g clock k stored keyed same (record {
               sixteen = ap length general ∙ sixteen;
               ofFirst = ap (λ w. getD w (first / 16 % 16) 0) (sym general);

@@ -1,7 +1,7 @@
 -- `records::put_reason` meets its contract. Each arm stores the results of its reason.
 -- Assumes nothing.
 use borrow.Author.Needs.{needs}
-use Rattle.machine.specs.Answers.{reasonResults}
+use Rattle.machine.specs.Answers.{reasonCode, resultsWith, reasonResults}
 use Rattle.records.proofs.put_reason.Statement.{statement}
 use Rattle.records.proofs.put_reason.Tie as tie
 
@@ -63,63 +63,63 @@ same-length : tie.Need-same-length
 same-length c = search needs
 
 returns : tie.Need-returns
-unfolding reasonResults
+unfolding reasonResults resultsWith reasonCode
 returns c = rw (c .before .before .before .before .before .reason .given .1) (c .before .before .put-fields .ensures)
 
 same-length-2 : tie.Need-same-length-2
 same-length-2 c = search needs
 
 returns-2 : tie.Need-returns-2
-unfolding reasonResults
+unfolding reasonResults resultsWith reasonCode
 returns-2 c = rw (c .before .before .before .before .before .reason2 .given .1) (c .before .before .put-plain .ensures)
 
 same-length-3 : tie.Need-same-length-3
 same-length-3 c = search needs
 
 returns-3 : tie.Need-returns-3
-unfolding reasonResults
+unfolding reasonResults resultsWith reasonCode
 returns-3 c = rw (c .before .before .before .before .enum-told .given .1) (c .before .before .put-plain2 .ensures)
 
 same-length-4 : tie.Need-same-length-4
 same-length-4 c = search needs
 
 returns-4 : tie.Need-returns-4
-unfolding reasonResults
+unfolding reasonResults resultsWith reasonCode
 returns-4 c = rw (c .before .before .before .before .before .reason3 .given .1) (c .before .before .put-plain3 .ensures)
 
 same-length-5 : tie.Need-same-length-5
 same-length-5 c = search needs
 
 returns-5 : tie.Need-returns-5
-unfolding reasonResults
+unfolding reasonResults resultsWith reasonCode
 returns-5 c = rw (c .before .before .before .before .enum-told2 .given .1) (c .before .before .put-plain4 .ensures)
 
 same-length-6 : tie.Need-same-length-6
 same-length-6 c = search needs
 
 returns-6 : tie.Need-returns-6
-unfolding reasonResults
+unfolding reasonResults resultsWith reasonCode
 returns-6 c = rw (c .before .before .before .before .enum-told3 .given .1) (c .before .before .put-plain5 .ensures)
 
 same-length-7 : tie.Need-same-length-7
 same-length-7 c = search needs
 
 returns-7 : tie.Need-returns-7
-unfolding reasonResults
+unfolding reasonResults resultsWith reasonCode
 returns-7 c = rw (c .before .before .before .before .enum-told4 .given .1) (c .before .before .put-plain6 .ensures)
 
 same-length-8 : tie.Need-same-length-8
 same-length-8 c = search needs
 
 returns-8 : tie.Need-returns-8
-unfolding reasonResults
+unfolding reasonResults resultsWith reasonCode
 returns-8 c = rw (c .before .before .before .before .enum-told5 .given .1) (c .before .before .put-plain7 .ensures)
 
 same-length-9 : tie.Need-same-length-9
 same-length-9 c = search needs
 
 returns-9 : tie.Need-returns-9
-unfolding reasonResults
+unfolding reasonResults resultsWith reasonCode
 returns-9 c = rw (c .before .before .before .before .before .reason4 .given .1) (c .before .before .put-fields2 .ensures)
 
 pub put-reason-spec : {M : Type 1} → statement M

@@ -13,8 +13,7 @@ condition-code-requires : tie.Need-condition-code-requires
 condition-code-requires c κs = search needs
 
 selected-requires : tie.Need-selected-requires
-selected-requires c κs =
-    (omega arith, omega (arith, c .condition-code .ensures (seen (c .before .args .psw) (record { words = [] })) refl))
+selected-requires c κs = omega (arith, c .condition-code .ensures (seen (c .before .args .psw) (record { words = [] })) refl)
 
 returns : tie.Need-returns
 returns c = λ k same. c .selected .ensures ∙ ap (selected _) (c .before .condition-code .ensures k same)

@@ -1,10 +1,12 @@
 -- `registers::subtract` meets its contract.
 -- Assumes nothing.
-use mathlib.Core.Path.{sym, _∙_}
 use borrow.Author.Needs.{needs}
-use Rattle.machine.specs.Execute.{sumCode}
+use mathlib.Core.Path.{refl, ap, _∙_}
+use Rattle.machine.specs.Execute.{differenceOf, differenceOverflows, subtract}
 use Rattle.machine.specs.Host.{host}
-use Rattle.registers.proofs.Ending.{subtracted}
+use Rattle.machine.specs.Psw.{withConditionCode}
+use Rattle.adder.proofs.Sums.{small-code}
+use Rattle.registers.proofs.Ending.{of-words}
 use Rattle.registers.proofs.subtract.Statement.{statement}
 use Rattle.registers.proofs.subtract.Tie as tie
 
@@ -35,10 +37,11 @@ element-copy-out-b c = search needs
 subtract-requires : tie.Need-subtract-requires
 subtract-requires c κs = search needs
 
+with-condition-code-requires : tie.Need-with-condition-code-requires
+with-condition-code-requires c κs = rw (c .subtract .ensures .2) (small-code _ _)
+
 summed-requires : tie.Need-summed-requires
-summed-requires c κs =
-    let back10 = c .before .before .before .before .before .before .before .before .before .before in
-    (back10 .pre, c .subtract .ensures .2 ∙ (λ i. sumCode (sym (c .subtract .ensures .0) i) (sym (c .subtract .ensures .1) i)))
+summed-requires c κs = search needs
 
 same-length : tie.Need-same-length
 same-length c = search needs
@@ -47,16 +50,18 @@ same-length-2 : tie.Need-same-length-2
 same-length-2 c = search needs
 
 returns : tie.Need-returns
+unfolding subtract
 returns c =
     let back4 = c .before .before .before .before in
-    let back5 = back4 .before in
-    let back15 = back5 .before .before .before .before .before .before .before .before .before .before in
-    let a = back15 .args in
+    let back7 = back4 .before .before .before in
+    let back8 = back7 .before in
+    let back16 = back8 .before .before .before .before .before .before .before .before in
+    let k = back16 .args .cpu in
     λ clock x standing.
-    subtracted (host (a .designation) _ _) x standing (back4 .summed .result)
-    (back5 .subtract .result .value) (back5 .subtract .result .overflow)
-    (back5 .subtract .ensures .0) (back5 .subtract .ensures .1)
-    (back4 .summed .ensures clock x standing)
+    of-words (host (back16 .args .designation) _ _) x standing (back4 .summed .result) differenceOf differenceOverflows
+    (back7 .with-condition-code .result) (back8 .subtract .result .value)
+    (back7 .with-condition-code .ensures k refl ∙ ap (λ n. withConditionCode k n .psw) (back8 .subtract .ensures .2), back8 .subtract .ensures .0)
+    (λ overflow coded. back4 .summed .ensures overflow clock coded x standing)
 
 pub subtract-spec : {M : Type 1} → statement M
 subtract-spec =
@@ -71,6 +76,7 @@ subtract-spec =
     mul-b
     element-copy-out-b
     subtract-requires
+    with-condition-code-requires
     summed-requires
     same-length
     same-length-2

@@ -1,19 +1,21 @@
 -- `registers::summed` meets its contract.
 -- Assumes nothing.
 use borrow.Author.Needs.{needs}
-use mathlib.Core.Path.{refl, ap, sym, _∙_}
-use Rattle.registers.proofs.Ending.{small-code, summed-state, summed-interrupts, summed-ends}
+use mathlib.Core.Path.{refl, sym, _∙_}
+use Rattle.machine.specs.Execute.{sumCode}
 use Rattle.machine.specs.Host.{host}
-use Rattle.execute.specs.After.{leftBy}
 use Rattle.machine.specs.Psw.{withConditionCode}
+use Rattle.execute.specs.After.{leftBy}
+use Rattle.adder.proofs.Sums.{sum-state}
+use Rattle.registers.proofs.Ending.{sum-interrupts, summed-interrupts, summed-ends}
 use Rattle.registers.proofs.summed.Statement.{statement}
 use Rattle.registers.proofs.summed.Tie as tie
 
 cast-i : tie.Need-cast-i
 cast-i c = search needs
 
-with-condition-code-requires : tie.Need-with-condition-code-requires
-with-condition-code-requires c κs = rw (c .before .before .before .pre .1) (small-code (c .before .before .before .args .sum .value) (c .before .before .before .args .sum .overflow))
+condition-code-requires : tie.Need-condition-code-requires
+condition-code-requires c κs = search needs
 
 interrupts-requires : tie.Need-interrupts-requires
 interrupts-requires c κs = search needs
@@ -39,12 +41,12 @@ returns c =
     let back10 = back9 .before in
     let back14 = back10 .before .before .before .before in
     let a = back14 .args in
-    λ clock x standing.
-    summed-interrupts (host (a .designation) _ _) x standing (a .sum .value) (a .sum .overflow) (sym (back9 .interrupts .ensures (a .cpu) refl) ∙ back8 .if1 .taken)
+    λ overflow clock coded x standing.
+    summed-interrupts (host (a .designation) _ _) x standing (a .value) overflow
+    (sum-interrupts (a .cpu) (a .value) overflow _ (back10 .condition-code .ensures (withConditionCode (a .cpu) (sumCode (a .value) overflow)) (sym coded))
+    _ (back9 .interrupts .ensures (a .cpu) refl) ∙ back8 .if1 .taken)
     (back4 .exception .result) (leftBy (a .cpu) (back7 .with-general .result))
-    (back7 .with-general .ensures .1
-    ∙ summed-state (a .cpu) _ (a .sum .value) (a .sum .overflow) (back10 .with-condition-code .result)
-    (back10 .with-condition-code .ensures (a .cpu) refl ∙ ap (λ k. withConditionCode (a .cpu) k .psw) (back14 .pre .1)))
+    (back7 .with-general .ensures .1 ∙ sum-state (a .cpu) (a .value) overflow _ (a .coded) coded)
     (back4 .exception .ensures x clock (a .cpu) standing (back7 .with-general .ensures .2))
 
 mark-text-requires : tie.Need-mark-text-requires
@@ -70,10 +72,11 @@ returns-2 c =
     let back9 = back8 .before in
     let back13 = back9 .before .before .before .before in
     let a = back13 .args in
-    λ clock x standing.
-    summed-ends (host (a .designation) _ _) x standing (a .sum .value) (a .sum .overflow) (sym (back8 .interrupts .ensures (a .cpu) refl) ∙ back7 .if1 .left)
-    (c .with-general2 .result) (back9 .with-condition-code .result) (c .before .advanced .result)
-    (back9 .with-condition-code .ensures (a .cpu) refl ∙ ap (λ k. withConditionCode (a .cpu) k .psw) (back13 .pre .1))
+    λ overflow clock coded x standing.
+    summed-ends (host (a .designation) _ _) x standing (a .value) overflow
+    (sum-interrupts (a .cpu) (a .value) overflow _ (back9 .condition-code .ensures (withConditionCode (a .cpu) (sumCode (a .value) overflow)) (sym coded))
+    _ (back8 .interrupts .ensures (a .cpu) refl) ∙ back7 .if1 .left)
+    (c .with-general2 .result) (a .coded) (c .before .advanced .result) coded
     (c .before .advanced .ensures) (c .with-general2 .ensures .0) (c .with-general2 .ensures .1) (back5 .mark-text .ensures)
 
 pub summed-spec : {M : Type 1} → statement M
@@ -81,7 +84,7 @@ summed-spec =
     tie.close
     (tie.spec
     cast-i
-    with-condition-code-requires
+    condition-code-requires
     interrupts-requires
     with-general-requires
     exception-requires

@@ -11,7 +11,7 @@ use borrow.Author.Needs.{needs}
 use Rattle.machine.specs.declared.Numbers.{Numbers}
 use Rattle.machine.specs.Record.{guestOf}
 use Rattle.machine.specs.Time.{clockAfter, charged}
-use Rattle.machine.proofs.Lens.{Bounded}
+use Rattle.machine.specs.Record.{Bounded}
 use Rattle.run.specs.Running.{machineAt, Remains}
 use Rattle.run.proofs.Steps.{remains-start, budget-ends, one-more, exit-ends, exit-ended}
 use Rattle.run.proofs.Streaking.{streak-more}

@@ -9,7 +9,7 @@ use borrow.Author.Needs.{needs}
 use Rattle.machine.specs.declared.Numbers.{Numbers}
 use Rattle.machine.specs.Record.{guestOf}
 use Rattle.machine.specs.Host.{host}
-use Rattle.machine.proofs.Lens.{Bounded}
+use Rattle.machine.specs.Record.{Bounded}
 use Rattle.pages.specs.Keeping.{Inside, Holds}
 use Rattle.pages.proofs.Holding.{holds-now}
 use Rattle.run.specs.Running.{machineAt, Remains, stateOf}

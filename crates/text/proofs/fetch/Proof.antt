@@ -6,7 +6,7 @@ use mathlib.Core.Path.{refl, sym, ap, _∙_}
 use borrow.Author.Needs.{needs}
 use Rattle.machine.specs.Psw.{wrap}
 use Rattle.address.specs.Touching.{seen}
-use Rattle.text.specs.Fetching.{noText, noFrames}
+use Rattle.text.specs.Fetching.{noText, noFrames, noOpcode}
 use Rattle.text.proofs.Halfwords.{wrap-below, initial, none-keyed}
 use Rattle.text.proofs.Texts.{standing-started, first-odd}
 use Rattle.text.proofs.fetch.Statement.{statement}
@@ -25,8 +25,8 @@ returns c =
     let address = back2 .instruction-address .ensures (seen (a .psw) (a .control)) refl in
     rw (c .unfetched .ensures) (
       λ k clock ofPsw ofControl.
-          first-odd noText noFrames (ap (λ n. n % 2) (sym address) ∙ c .before .if1 .taken) _ clock k ofPsw ofControl (standing-started _ _ clock k),
-      (none-keyed, omega arith, omega arith),
+          first-odd noText noFrames noOpcode (ap (λ n. n % 2) (sym address) ∙ c .before .if1 .taken) _ clock k ofPsw ofControl (standing-started _ _ clock k 1 refl),
+      ((none-keyed, omega arith, omega arith), omega arith),
     )
 
 wrapped-requires : tie.Need-wrapped-requires
@@ -51,7 +51,7 @@ fetch-first-requires c κs =
 
 returns-2 : tie.Need-returns-2
 returns-2 c = (
-  λ k clock ofPsw ofControl. c .fetch-first .ensures .0 _ clock k ofPsw ofControl (standing-started _ _ clock k),
+  λ k clock ofPsw ofControl. c .fetch-first .ensures .0 _ clock k ofPsw ofControl (standing-started _ _ clock k 1 refl),
   c .fetch-first .ensures .1,
 )
 

@@ -4,7 +4,8 @@ use native.Mathlib.Omega.{arith}
 use mathlib.Core.Path.{ap, _∙_}
 use borrow.Author.Needs.{needs}
 use Rattle.machine.specs.Units.{firstText}
-use Rattle.text.specs.Fetching.{noText, noFrames, oneFrame}
+use Rattle.decode.proofs.Packing.{length-at-most, alignment-some}
+use Rattle.text.specs.Fetching.{noText, noFrames, noOpcode, oneFrame}
 use Rattle.text.proofs.Halfwords.{shut, small-code, opened, fits, none-keyed, marked-first}
 use Rattle.text.proofs.Texts.{first-shut, first-open}
 use Rattle.text.proofs.fetch_first.Statement.{statement}
@@ -25,18 +26,18 @@ cast-half-at c = search needs
 half-at-requires : tie.Need-half-at-requires
 half-at-requires c κs = fits (opened (c .before .before .before .before .before .pre .1) (c .before .operand2 .given .1))
 
-length-of-requires : tie.Need-length-of-requires
-length-of-requires c κs = search needs
+decode-requires : tie.Need-decode-requires
+decode-requires c κs = search needs
 
-cast-t13 : tie.Need-cast-t13
-cast-t13 c = search needs
+cast-t14 : tie.Need-cast-t14
+cast-t14 c = search needs
 
 fetch-second-requires : tie.Need-fetch-second-requires
 fetch-second-requires c κs =
     let back3 = c .before .before .before in
     let back7 = back3 .before .before .before .before in
     let (entered, each) = back7 .pre .0 in
-    ((entered, each, c .length-of .ensures .2), opened (back7 .pre .1) (back3 .operand2 .given .1))
+    ((entered, each, rw (c .decode .ensures) (length-at-most _)), opened (back7 .pre .1) (back3 .operand2 .given .1))
 
 returns : tie.Need-returns
 returns c =
@@ -44,8 +45,8 @@ returns c =
     let back6 = back2 .before .before .before .before in
     let found = shut (back6 .pre .1) (back2 .operand .given .1) in
     rw (c .unfetched .ensures) (
-      first-shut noText noFrames (back2 .operand .given .0 .0) found,
-      (none-keyed, omega arith, small-code found),
+      first-shut noText noFrames noOpcode (back2 .operand .given .0 .0) found,
+      ((none-keyed, omega arith, small-code found), omega arith),
     )
 
 returns-2 : tie.Need-returns-2
@@ -55,12 +56,13 @@ returns-2 c =
     let back8 = back4 .before .before .before .before in
     let place = back4 .operand2 .given .0 .0 in
     let half = back2 .half-at .result in
-    let length = c .before .length-of .result in (
-      first-open noText noFrames place (oneFrame place) (marked-first place) (record { ilc = length; first = half; second = 0; third = 0 })
+    let code = c .before .decode .result in
+    let known = c .before .decode .ensures in (
+      first-open noText noFrames place (oneFrame place) (marked-first place) (record { ilc = code .length; first = half; second = 0; third = 0 }) code
           (c .fetch-second .result) (opened (back8 .pre .1) (back4 .operand2 .given .1))
-          (ap (λ n. record { ilc = n; first = half; second = 0; third = 0 }) (c .before .length-of .ensures .0) ∙ ap firstText (back2 .half-at .ensures .0))
-          (c .fetch-second .ensures .0),
-      c .fetch-second .ensures .1,
+          (ap (λ o. record { ilc = o .length; first = half; second = 0; third = 0 }) known ∙ ap firstText (back2 .half-at .ensures .0))
+          known (c .fetch-second .ensures .0),
+      (c .fetch-second .ensures .1, rw known (alignment-some _)),
     )
 
 pub fetch-first-spec : {M : Type 1} → statement M
@@ -72,8 +74,8 @@ fetch-first-spec =
     enum-known-operand-2
     cast-half-at
     half-at-requires
-    length-of-requires
-    cast-t13
+    decode-requires
+    cast-t14
     fetch-second-requires
     returns
     returns-2)

@@ -1,6 +1,7 @@
 -- `text::second_page` meets its contract.
 -- Assumes nothing.
 use borrow.Author.Needs.{needs}
+use Rattle.machine.specs.Opcodes.{opcodeOf}
 use Rattle.text.specs.Fetching.{andFrame}
 use Rattle.text.proofs.Halfwords.{shut, small-code, opened, fits, keyed, and-keyed, ends-in-second, marked-next}
 use Rattle.text.proofs.Texts.{second-shut, second-open}
@@ -40,7 +41,7 @@ returns c =
     let (keys, one, more, few, start) = back6 .pre .1 .0 in
     let found = shut (back6 .pre .1 .1) (back2 .operand .given .1) in
     rw (c .cut-short .ensures)
-    (second-shut (a .text) (a .frames) (back2 .operand .given .0 .0) more found, (keys, few, small-code found))
+    (second-shut (a .text) (a .frames) (opcodeOf (a .text .first)) (back2 .operand .given .0 .0) more found, (keys, few, small-code found))
 
 returns-2 : tie.Need-returns-2
 returns-2 c =

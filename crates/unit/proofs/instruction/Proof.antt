@@ -23,17 +23,11 @@ returns : tie.Need-returns
 returns c =
     let back4 = c .before .before .before .before in
     let back8 = back4 .before .before .before .before in
-    let back11 = back8 .before .before .before in
-    let back16 = back11 .before .before .before .before .before in
-    let a = back16 .args in
-    fetch-failed (host (a .designation) _ _) (a .guest) (a .clock) (a .cpu) (back11 .fetch .result) (back4 .excepted .result)
-    (back11 .fetch .ensures .0 (a .cpu) (a .clock) refl refl) (back8 .if1 .taken) (λ x standing. back4 .excepted .ensures (a .clock) x standing)
-
-cast-decode : tie.Need-cast-decode
-cast-decode c = search needs
-
-decode-requires : tie.Need-decode-requires
-decode-requires c κs = search needs
+    let back13 = back8 .before .before .before .before .before in
+    let a = back13 .before .before .before .before .before .args in
+    let fetched = back13 .fetch in
+    fetch-failed (host (a .designation) _ _) (a .guest) (a .clock) (a .cpu) (fetched .result .opcode) (fetched .result .reading) (back4 .excepted .result)
+    (fetched .ensures .0 (a .cpu) (a .clock) refl refl) (back8 .if1 .taken) (λ x standing. back4 .excepted .ensures (a .clock) x standing)
 
 decoded-requires : tie.Need-decoded-requires
 decoded-requires c κs = search needs
@@ -48,12 +42,11 @@ returns-2 : tie.Need-returns-2
 returns-2 c =
     let back4 = c .before .before .before .before in
     let back7 = back4 .before .before .before in
-    let back9 = back7 .before .before in
-    let back12 = back9 .before .before .before in
-    let back17 = back12 .before .before .before .before .before in
-    let a = back17 .args in
-    fetch-whole (host (a .designation) _ _) (a .guest) (a .clock) (a .cpu) (back12 .fetch .result) (back4 .decoded .result)
-    (back12 .fetch .ensures .0 (a .cpu) (a .clock) refl refl) (back9 .if1 .left) (back7 .decode .result) (back7 .decode .ensures) (λ x standing. back4 .decoded .ensures x standing)
+    let back12 = back7 .before .before .before .before .before in
+    let a = back12 .before .before .before .before .before .args in
+    let fetched = back12 .fetch in
+    fetch-whole (host (a .designation) _ _) (a .guest) (a .clock) (a .cpu) (fetched .result .opcode) (fetched .result .reading) (back4 .decoded .result)
+    (fetched .ensures .0 (a .cpu) (a .clock) refl refl) (back7 .if1 .left) (λ x standing. back4 .decoded .ensures x standing)
 
 pub instruction-spec : {M : Type 1} → statement M
 instruction-spec =
@@ -64,8 +57,6 @@ instruction-spec =
     same-length
     same-length-2
     returns
-    cast-decode
-    decode-requires
     decoded-requires
     same-length-3
     same-length-4

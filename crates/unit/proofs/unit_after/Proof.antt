@@ -7,7 +7,8 @@ use Rattle.machine.specs.Host.{host, view}
 use Rattle.machine.specs.Units.{started}
 use Rattle.machine.specs.Psw.{withPsw}
 use Rattle.execute.specs.After.{leftBy}
-use Rattle.text.proofs.Order.{standing-unfetched, after-ends, after-malformed, after-instruction}
+use Rattle.text.proofs.Texts.{standing-started}
+use Rattle.text.proofs.Order.{after-ends, after-malformed, after-instruction}
 use Rattle.unit.proofs.unit_after.Statement.{statement}
 use Rattle.unit.proofs.unit_after.Tie as tie
 
@@ -69,7 +70,7 @@ returns-2 c =
     let h = host (a .designation) _ _ in
     after-malformed h (a .guest) (a .clock) (a .cpu) (a .before) (back4 .excepted .result) (back8 .exception-of .result) (back8 .exception-of .ensures) (back9 .enum-told .given .1)
     (back4 .excepted .ensures (a .clock) (started (a .guest) (a .clock) (view (a .guest) h) (a .cpu) 0)
-    (standing-unfetched h (a .guest) (a .clock) (a .cpu) (back5 .unfetched .result) (back5 .unfetched .ensures)))
+    (standing-started h (a .guest) (a .clock) (a .cpu) 0 (back5 .unfetched .ensures)))
 
 same-length-3 : tie.Need-same-length-3
 same-length-3 c = search needs

@@ -1,0 +1,23 @@
+-- What the run operation answers and leaves behind.
+use Prim.Native.Nat.{ℕ}
+use mathlib.Core.Path.{_≡_}
+use mathlib.Core.List.{List}
+use Rattle.machine.specs.declared.Answer.{Answer}
+use Rattle.machine.specs.declared.Numbers.{Numbers}
+use Rattle.machine.specs.Operations.{Result, runOf}
+use Rattle.packing.specs.Packing.{packedAnswer, placeAfterRun}
+
+-- a run answered, and left record, storage and keys, as a result says
+pub record Gives (result : Result) (a : Answer) (r storage keys : List ℕ) : Type 0 where
+  pub answer : a ≡ result .answer
+  pub description : r ≡ result .description
+  pub bytes : storage ≡ result .storage
+  pub marks : keys ≡ result .keys
+
+-- run, packed: answer and caller's place, record, storage and keys are those of the definition
+pub record RunGives (n : Numbers) (r storage keys : List ℕ) (before x : ℕ) (r′ storage′ keys′ : List ℕ) (after : ℕ) : Type 0 where
+  pub answer : x ≡ packedAnswer (runOf n r storage keys .answer)
+  pub place : after ≡ placeAfterRun (runOf n r storage keys .answer) before
+  pub description : r′ ≡ runOf n r storage keys .description
+  pub bytes : storage′ ≡ runOf n r storage keys .storage
+  pub marks : keys′ ≡ runOf n r storage keys .keys

@@ -1,3 +1,0 @@
--- Laws of the parts of a verdict and of entry.
-pub mod Parts
-pub mod Entry

@@ -1,0 +1,34 @@
+-- `refusals::storage_verdict` meets its contract. Each return meets refusals 3 and 4 by the tests that led to it.
+-- Assumes nothing.
+use borrow.Author.Needs.{needs}
+use Rattle.machine.specs.Refusals.{wrongStorage, wrongKeys}
+use Rattle.machine.proofs.Tests.{tests}
+use Rattle.refusals.specs.Parts.{storageVerdict}
+use Rattle.refusals.proofs.storage_verdict.Statement.{statement}
+use Rattle.refusals.proofs.storage_verdict.Tie as tie
+
+returns : tie.Need-returns
+unfolding storageVerdict wrongStorage wrongKeys
+returns c = search tests
+
+mul-if2 : tie.Need-mul-if2
+mul-if2 c = search needs
+
+returns-2 : tie.Need-returns-2
+unfolding storageVerdict wrongStorage wrongKeys
+returns-2 c = search tests
+
+returns-3 : tie.Need-returns-3
+unfolding storageVerdict wrongStorage wrongKeys
+returns-3 c = search tests
+
+returns-4 : tie.Need-returns-4
+unfolding storageVerdict wrongStorage wrongKeys
+returns-4 c = search tests
+
+returns-5 : tie.Need-returns-5
+unfolding storageVerdict wrongStorage wrongKeys
+returns-5 c = search tests
+
+pub storage-verdict-spec : {M : Type 1} → statement M
+storage-verdict-spec = tie.close (tie.spec returns mul-if2 returns-2 returns-3 returns-4 returns-5)
