@@ -49,6 +49,11 @@ pub decoded-executed : (x : Progress) (o : Opcode) → sameClass (o .class) Unas
 unfolding decoded
 decoded-executed x o assigned privileged asked aligned = rw (assigned, privileged, asked, aligned)
 
+-- an exception by an equal failure
+pub by-failure : (h : Host) (g : Guest) (c k : Cpu) (x : Progress) (d : Done) {f f' : Failure} {storage keys : List ℕ} → f ≡ f'
+    → Left h g c (exception x k f) d storage keys → Left h g c (exception x k f') d storage keys
+by-failure h g c k x d {storage = storage} {keys = keys} same left = subst (λ f. Left h g c (exception x k f) d storage keys) same left
+
 -- an instruction by its class
 pub performed : (h : Host) (g : Guest) (c : Cpu) (x : Progress) {class kind : Class} (d : Done) {storage keys : List ℕ} → class ≡ kind
     → Left h g c (execute kind x) d storage keys → Left h g c (execute class x) d storage keys
@@ -58,8 +63,7 @@ performed h g c x d {storage} {keys} known left = subst (λ k. Left h g c (execu
 pub performed-unassigned : (h : Host) (g : Guest) (c : Cpu) (x : Progress) {class : Class} (d : Done) {storage keys : List ℕ} (f : Failure) → f ≡ exceptionOf operation
     → class ≡ Unassigned → Left h g c (exception x (x .cpu) f) d storage keys → Left h g c (execute class x) d storage keys
 unfolding execute
-performed-unassigned h g c x d {storage} {keys} f code known left =
-    performed h g c x d known (subst (λ f. Left h g c (exception x (x .cpu) f) d storage keys) code left)
+performed-unassigned h g c x d f code known left = performed h g c x d known (by-failure h g c (x .cpu) x d code left)
 
 -- the fetch of the text, as it ended
 module _ (h : Host) (g : Guest) (clock : ℕ) (c : Cpu) {o : Outcome} (code : Opcode) (r : Reading) (d : Done) {storage keys : List ℕ}
@@ -93,7 +97,7 @@ module _ (h : Host) (g : Guest) (clock : ℕ) (c : Cpu) (before : Before) (d : D
         → Left h g c (unitAfter g clock (view g h) c before) d storage keys
     after-malformed f code list left =
         subst (λ b. Left h g c (unitAfter g clock (view g h) c b) d storage keys) (sym list)
-        (subst (λ f. Left h g c (exception (started g clock (view g h) c 0) c f) d storage keys) code left)
+        (by-failure h g c c (started g clock (view g h) c 0) d code left)
 
     pub after-instruction : before ≡ Instruction → Left h g c (instruction (started g clock (view g h) c 1)) d storage keys
         → Left h g c (unitAfter g clock (view g h) c before) d storage keys

@@ -33,7 +33,7 @@ use machine::Registers;
 use machine::Text;
 
 // What the tests before an instruction's operand come to: a program exception, code 4, or the instruction.
-enum Tested {
+enum Tests {
     Excepted(u32),
     Intercepted,
     Clear,
@@ -157,26 +157,26 @@ fn perform(
 }
 
 // The tests of an instruction whose text is fetched, before its operand: operation, privilege, interception, alignment.
-fn tested(o: Opcode, guest: Guest, psw: Psw, general: Registers, text: Text) -> Tested
+fn tested(o: Opcode, guest: Guest, psw: Psw, general: Registers, text: Text) -> Tests
     requires { ⌜ 0 < o .alignment ⌝ }
     ensures { λ r. ⌜ ((x : Progress) → x .guest ≡ guest → x .cpu .psw ≡ psw → x .cpu .general ≡ general → x .text ≡ text → decoded x o ≡ afterTests x o r) ⌝ }
     ensures { λ r. ⌜ exceptionCode r < 65536 ⌝ }
 {
     let class = o.class;
     if unassigned(class) {
-        return Tested::Excepted(OPERATION);
+        return Tests::Excepted(OPERATION);
     }
     if forbidden(o.privileged, psw) {
-        return Tested::Excepted(PRIVILEGED_OPERATION);
+        return Tests::Excepted(PRIVILEGED_OPERATION);
     }
     if intercepts(class, guest, text) {
-        return Tested::Intercepted;
+        return Tests::Intercepted;
     }
     let a = cpu::operand_address(psw, general, text);
     if cpu::misaligned(o.alignment, a) {
-        return Tested::Excepted(SPECIFICATION);
+        return Tests::Excepted(SPECIFICATION);
     }
-    Tested::Clear
+    Tests::Clear
 }
 
 // An instruction whose text is fetched, by what its tests come to.
@@ -197,12 +197,12 @@ fn decoded(
     let class = o.class;
     let tests = tested(o, guest, cpu.psw, cpu.general, text);
     match tests {
-        Tested::Excepted(code) => {
+        Tests::Excepted(code) => {
             let f = exception_of(code);
             execute::excepted(storage, keys, designation, guest, cpu, text, t, f)
         }
-        Tested::Intercepted => intercept_instruction(cpu, text),
-        Tested::Clear => perform(
+        Tests::Intercepted => intercept_instruction(cpu, text),
+        Tests::Clear => perform(
             class,
             storage,
             keys,
