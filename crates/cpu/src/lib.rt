@@ -336,11 +336,11 @@ pub fn intercepts_lctl(guest: Guest, i: u32, n: u32) -> bool
 }
 
 // The operand's address is not a multiple of its alignment.
-pub fn misaligned(alignment: u8, a: u32) -> bool
+pub fn misaligned(alignment: u32, a: u32) -> bool
     requires { ⌜ 0 < alignment ⌝ }
     ensures { λ r. ⌜ r ≡ misaligned alignment a ⌝ }
 {
-    a % alignment as u32 != 0
+    a % alignment != 0
 }
 
 // Step 4: the clock comparator interrupts.

@@ -114,7 +114,7 @@ pub fn decode(first: u32) -> Opcode
             return Opcode {
                 length: (row / 65536 % 16) as u8,
                 privileged: row / 4096 % 16 == 1,
-                alignment: (row / 256 % 16) as u8,
+                alignment: (row / 256 % 16) as u32,
                 class: class_of((row % 256) as u32),
             };
         }

@@ -101,7 +101,7 @@ pub enum Class {
 pub struct Opcode {
     pub length: u8,
     pub privileged: bool,
-    pub alignment: u8,
+    pub alignment: u32,
     pub class: Class,
 }
 

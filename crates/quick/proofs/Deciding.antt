@@ -77,13 +77,14 @@ module _ (guard storage keys : List ℕ) (psw : Psw) (kept : Kept) (first second
     λ none. (
       λ h g clock c bytes marks state named keeps x standing.
           let here : c ≡ x .cpu = sym (standing .ofCpu) in
-          decoded-executed h x standing o (doneOf c q) (ap (λ k. sameClass k Unassigned) (plain .class) ∙ assigned)
-          (ap (λ b. b && problemState c) (plain .privileged)) (ap (λ k. intercepts k x) (plain .class) ∙ clear x)
-          (ap (λ n. misaligned n (operandAddress x)) (plain .alignment) ∙ never-misaligned (operandAddress x))
-          (subst (λ e. Left h g c e (doneOf c q) storage' keys')
+          let executed : decoded x o ≡ execute (o .class) x =
+          decoded-executed x o (ap (λ k. sameClass k Unassigned) (plain .class) ∙ assigned) (ap (λ b. b && problemState (x .cpu)) (plain .privileged))
+          (ap (λ k. intercepts k x) (plain .class) ∙ clear x) (ap (λ n. misaligned n (operandAddress x)) (plain .alignment) ∙ never-misaligned (operandAddress x)) in
+          subst (λ e. Left h g c e (doneOf c q) storage' keys')
           (same x (ap (λ k. k .psw) (standing .ofCpu) ∙ state) (standing .ofText) (subst (λ k. Named k first second value index base) here named)
-          ∙ ap (λ k. execute k x) (sym (plain .class)))
-          (made none .0 h g clock c bytes marks state named keeps x standing)),
+          ∙ ap (λ k. execute k x) (sym (plain .class))
+          ∙ sym executed)
+          (made none .0 h g clock c bytes marks state named keeps x standing),
       made none .1,
     ),
     alone,

@@ -3,7 +3,7 @@
 use Prim.Native.Nat.{ℕ}
 use mathlib.Core.Bool.{Bool, true, false, cond, _&&_}
 use mathlib.Core.List.{List}
-use mathlib.Core.Path.{_≡_, refl, ap, sym, subst, _∙_}
+use mathlib.Core.Path.{_≡_, ap, sym, subst, _∙_}
 use Rattle.machine.specs.declared.Class.{Class}
 use Rattle.machine.specs.declared.Class.the-variants.{Unassigned}
 use Rattle.machine.specs.declared.Cpu.{Cpu}
@@ -15,7 +15,7 @@ use Rattle.machine.specs.declared.Reason.{Reason}
 use Rattle.machine.specs.declared.Reason.the-variants as reason
 use Rattle.machine.specs.declared.Text.{Text}
 use Rattle.machine.specs.Psw.{problemState, withPsw, advanced}
-use Rattle.machine.specs.Failures.{operation, privilegedOperation, specification, exceptionOf}
+use Rattle.machine.specs.Failures.{operation, specification, exceptionOf}
 use Rattle.machine.specs.Host.{Host, view}
 use Rattle.machine.specs.Opcodes.{sameClass}
 use Rattle.machine.specs.Outcomes.{Outcome, Progress}
@@ -43,50 +43,16 @@ module _ (h : Host) (x : Progress) {g : Guest} {clock : ℕ} {c : Cpu} {text : T
       left-intercepted h g c (reason.Instruction (x .text)) (next x (x .cpu)) d (ended ∙ ap (λ u. event.Intercepted (reason.Instruction u)) (sym (standing .ofText)))
       (left ∙ past-it h x standing c psw moved ∙ ap (next x) (sym (standing .ofCpu)))
 
-  -- the tests in their order: operation, privilege, interception, alignment, and then the instruction
-  module _ (o : Opcode) (d : Done) {storage keys : List ℕ} where
-    -- with the tests that the code has made
-    by-tests : (u p q r : Bool) → sameClass (o .class) Unassigned ≡ u → (o .privileged && problemState c) ≡ p → intercepts (o .class) x ≡ q
-        → misaligned (o .alignment) (operandAddress x) ≡ r
-        → Left h g c
-        (cond u (exception x (x .cpu) (exceptionOf operation))
-        (cond p (exception x (x .cpu) (exceptionOf privilegedOperation))
-        (cond q (interceptInstruction x) (cond r (exception x (x .cpu) (exceptionOf specification)) (execute (o .class) x))))) d storage keys
-        → Left h g c (decoded x o) d storage keys
-    unfolding decoded
-    by-tests u p q r unassigned privileged asked aligned left =
-        subst (λ o. Left h g c o d storage keys)
-        (λ i. cond (sym unassigned i) (exception x (x .cpu) (exceptionOf operation))
-        (cond ((sym privileged ∙ ap (λ k. o .privileged && problemState k) (sym (standing .ofCpu))) i) (exception x (x .cpu) (exceptionOf privilegedOperation))
-        (cond (sym asked i) (interceptInstruction x) (cond (sym aligned i) (exception x (x .cpu) (exceptionOf specification)) (execute (o .class) x)))))
-        left
+-- the tests in their order: operation, privilege, interception, alignment, and then the instruction
+pub decoded-executed : (x : Progress) (o : Opcode) → sameClass (o .class) Unassigned ≡ false → (o .privileged && problemState (x .cpu)) ≡ false
+    → intercepts (o .class) x ≡ false → misaligned (o .alignment) (operandAddress x) ≡ false → decoded x o ≡ execute (o .class) x
+unfolding decoded
+decoded-executed x o assigned privileged asked aligned = rw (assigned, privileged, asked, aligned)
 
-    -- the exception as the code has it
-    with-failure : (f : Failure) (code : ℕ) → f ≡ exceptionOf code → Left h g c (exception x (x .cpu) f) d storage keys
-        → Left h g c (exception x (x .cpu) (exceptionOf code)) d storage keys
-    with-failure f code made left = subst (λ f. Left h g c (exception x (x .cpu) f) d storage keys) made left
-
-    pub decoded-unassigned : (f : Failure) → f ≡ exceptionOf operation → sameClass (o .class) Unassigned ≡ true
-        → Left h g c (exception x (x .cpu) f) d storage keys → Left h g c (decoded x o) d storage keys
-    decoded-unassigned f made unassigned left = by-tests true _ _ _ unassigned refl refl refl (with-failure f operation made left)
-
-    module _ (assigned : sameClass (o .class) Unassigned ≡ false) where
-      pub decoded-forbidden : (f : Failure) → f ≡ exceptionOf privilegedOperation → (o .privileged && problemState c) ≡ true
-          → Left h g c (exception x (x .cpu) f) d storage keys → Left h g c (decoded x o) d storage keys
-      decoded-forbidden f made privileged left = by-tests false true _ _ assigned privileged refl refl (with-failure f privilegedOperation made left)
-
-      pub decoded-intercepted : (o .privileged && problemState c) ≡ false → intercepts (o .class) x ≡ true → Left h g c (interceptInstruction x) d storage keys
-          → Left h g c (decoded x o) d storage keys
-      decoded-intercepted privileged asked left = by-tests false false true _ assigned privileged asked refl left
-
-      pub decoded-misaligned : (f : Failure) → f ≡ exceptionOf specification → (o .privileged && problemState c) ≡ false → intercepts (o .class) x ≡ false
-          → misaligned (o .alignment) (operandAddress x) ≡ true → Left h g c (exception x (x .cpu) f) d storage keys → Left h g c (decoded x o) d storage keys
-      decoded-misaligned f made privileged asked aligned left =
-          by-tests false false false true assigned privileged asked aligned (with-failure f specification made left)
-
-      pub decoded-executed : (o .privileged && problemState c) ≡ false → intercepts (o .class) x ≡ false → misaligned (o .alignment) (operandAddress x) ≡ false
-          → Left h g c (execute (o .class) x) d storage keys → Left h g c (decoded x o) d storage keys
-      decoded-executed privileged asked aligned left = by-tests false false false false assigned privileged asked aligned left
+-- an exception by an equal failure
+pub by-failure : (h : Host) (g : Guest) (c k : Cpu) (x : Progress) (d : Done) {f f' : Failure} {storage keys : List ℕ} → f ≡ f'
+    → Left h g c (exception x k f) d storage keys → Left h g c (exception x k f') d storage keys
+by-failure h g c k x d {storage = storage} {keys = keys} same left = subst (λ f. Left h g c (exception x k f) d storage keys) same left
 
 -- an instruction by its class
 pub performed : (h : Host) (g : Guest) (c : Cpu) (x : Progress) {class kind : Class} (d : Done) {storage keys : List ℕ} → class ≡ kind
@@ -97,8 +63,7 @@ performed h g c x d {storage} {keys} known left = subst (λ k. Left h g c (execu
 pub performed-unassigned : (h : Host) (g : Guest) (c : Cpu) (x : Progress) {class : Class} (d : Done) {storage keys : List ℕ} (f : Failure) → f ≡ exceptionOf operation
     → class ≡ Unassigned → Left h g c (exception x (x .cpu) f) d storage keys → Left h g c (execute class x) d storage keys
 unfolding execute
-performed-unassigned h g c x d {storage} {keys} f code known left =
-    performed h g c x d known (subst (λ f. Left h g c (exception x (x .cpu) f) d storage keys) code left)
+performed-unassigned h g c x d f code known left = performed h g c x d known (by-failure h g c (x .cpu) x d code left)
 
 -- the fetch of the text, as it ended
 module _ (h : Host) (g : Guest) (clock : ℕ) (c : Cpu) {o : Outcome} (code : Opcode) (r : Reading) (d : Done) {storage keys : List ℕ}
@@ -132,7 +97,7 @@ module _ (h : Host) (g : Guest) (clock : ℕ) (c : Cpu) (before : Before) (d : D
         → Left h g c (unitAfter g clock (view g h) c before) d storage keys
     after-malformed f code list left =
         subst (λ b. Left h g c (unitAfter g clock (view g h) c b) d storage keys) (sym list)
-        (subst (λ f. Left h g c (exception (started g clock (view g h) c 0) c f) d storage keys) code left)
+        (by-failure h g c c (started g clock (view g h) c 0) d code left)
 
     pub after-instruction : before ≡ Instruction → Left h g c (instruction (started g clock (view g h) c 1)) d storage keys
         → Left h g c (unitAfter g clock (view g h) c before) d storage keys

@@ -1,7 +1,7 @@
 // One unit of a guest: the list before it, the fetch of the text, the order of an instruction's tests, and the instruction. The
 // contract of unit equates how it ends, state, storage and keys with machine's unit put into effect.
 ghost use mathlib.Core.Path.{_≡_};
-ghost use mathlib.Core.Bool.{false, _&&_};
+ghost use mathlib.Core.Bool.{_&&_};
 ghost use Prim.Native.Nat.{ℕ, _≤_, _<_};
 ghost use lib.ListN.{length};
 ghost use Rattle.machine.specs.declared.Class.the-variants.{Unassigned};
@@ -16,6 +16,7 @@ ghost use Rattle.storage.specs.Entered.{Entered};
 ghost use Rattle.cpu.specs.Before.{unitAfter};
 ghost use Rattle.execute.specs.After.{Left};
 ghost use Rattle.execute.specs.Reaching.{Ready, Does};
+ghost use Rattle.unit.specs.Testing.{afterTests, exceptionCode};
 use cpu::Before;
 use execute::Done;
 use execute::Event;
@@ -26,7 +27,15 @@ use machine::Guest;
 use machine::Opcode;
 use machine::Psw;
 use machine::Reason;
+use machine::Registers;
 use machine::Text;
+
+// What the tests before an instruction's operand come to: a program exception, code 4, or the instruction.
+enum Tests {
+    Excepted(u32),
+    Intercepted,
+    Clear,
+}
 
 const OPERATION: u32 = 1;
 
@@ -134,48 +143,30 @@ fn perform(
     }
 }
 
-// An instruction of an assigned opcode: privilege, interception and alignment are tested before its operand.
-fn assigned(
-    storage: &mut [u8],
-    keys: &mut [u8],
-    designation: u32,
-    guest: Guest,
-    clock: u64,
-    cpu: Cpu,
-    text: Text,
-    t: Frames,
-    o: Opcode,
-) -> Done
-    requires { ⌜ Ready (now storage) (now keys) guest text t × (0 < o .alignment) × (sameClass (o .class) Unassigned ≡ false) ⌝ }
-    ensures { λ r. ⌜ Does (λ x. decoded x o) (host designation (now (storage .entry)) (now (keys .entry))) guest clock cpu text t r (now (storage .exit)) (now (keys .exit)) ⌝ }
+// The tests of an instruction whose text is fetched, before its operand: operation, privilege, interception, alignment.
+fn tested(o: Opcode, guest: Guest, psw: Psw, general: Registers, text: Text) -> Tests
+    requires { ⌜ 0 < o .alignment ⌝ }
+    ensures { λ r. ⌜ ((x : Progress) → x .guest ≡ guest → x .cpu .psw ≡ psw → x .cpu .general ≡ general → x .text ≡ text → decoded x o ≡ afterTests x o r) ⌝ }
+    ensures { λ r. ⌜ exceptionCode r < 65536 ⌝ }
 {
-    if forbidden(o.privileged, cpu.psw) {
-        let f = address::exception_of(PRIVILEGED_OPERATION);
-        return execute::excepted(storage, keys, designation, guest, cpu, text, t, f);
-    }
     let class = o.class;
+    if unassigned(class) {
+        return Tests::Excepted(OPERATION);
+    }
+    if forbidden(o.privileged, psw) {
+        return Tests::Excepted(PRIVILEGED_OPERATION);
+    }
     if intercepts(class, guest, text) {
-        return intercept_instruction(cpu, text);
+        return Tests::Intercepted;
     }
-    let a = cpu::operand_address(cpu.psw, cpu.general, text);
+    let a = cpu::operand_address(psw, general, text);
     if cpu::misaligned(o.alignment, a) {
-        let f = address::exception_of(SPECIFICATION);
-        return execute::excepted(storage, keys, designation, guest, cpu, text, t, f);
+        return Tests::Excepted(SPECIFICATION);
     }
-    perform(
-        class,
-        storage,
-        keys,
-        designation,
-        guest,
-        clock,
-        cpu,
-        text,
-        t,
-    )
+    Tests::Clear
 }
 
-// An instruction whose text is fetched: the operation is tested first.
+// An instruction whose text is fetched, by what its tests come to.
 fn decoded(
     storage: &mut [u8],
     keys: &mut [u8],
@@ -191,11 +182,25 @@ fn decoded(
     ensures { λ r. ⌜ Does (λ x. decoded x o) (host designation (now (storage .entry)) (now (keys .entry))) guest clock cpu text t r (now (storage .exit)) (now (keys .exit)) ⌝ }
 {
     let class = o.class;
-    if unassigned(class) {
-        let f = address::exception_of(OPERATION);
-        return execute::excepted(storage, keys, designation, guest, cpu, text, t, f);
+    let tests = tested(o, guest, cpu.psw, cpu.general, text);
+    match tests {
+        Tests::Excepted(code) => {
+            let f = address::exception_of(code);
+            execute::excepted(storage, keys, designation, guest, cpu, text, t, f)
+        }
+        Tests::Intercepted => intercept_instruction(cpu, text),
+        Tests::Clear => perform(
+            class,
+            storage,
+            keys,
+            designation,
+            guest,
+            clock,
+            cpu,
+            text,
+            t,
+        ),
     }
-    assigned(storage, keys, designation, guest, clock, cpu, text, t, o)
 }
 
 // The instruction at the PSW's address.
