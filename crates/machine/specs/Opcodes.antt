@@ -16,7 +16,7 @@ lengthOf first = cond (eqb (bits 16 0 1 first) 0) 1 (cond (ltb (bits 16 0 1 firs
 unfoldable pub numberOf : ℕ → ℕ
 numberOf first = cond (eqb (first / 256) 0xb2) first (first / 256)
 
--- a class's place among the classes
+-- a class's place among the classes: no two have the same
 abbrev pub codeOf : Class → ℕ
 codeOf Lr = 0
 codeOf Ar = 1

@@ -41,6 +41,7 @@ intercepts k x =
     (cond (sameClass k Lpsw) (bit 8 2 (x .guest .interceptions))
     (cond (sameClass k Lctl) (interceptsLctl (x .guest) (r1 x) (rangeCount x)) false))
 
+-- the operand's address is not a multiple of its alignment
 unfoldable pub misaligned : ℕ → ℕ → Bool
 misaligned alignment a = not (eqb (a % alignment) 0)
 
