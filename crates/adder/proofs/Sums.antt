@@ -3,7 +3,7 @@
 use Prim.Native.Nat.{ℕ, _<_}
 use native.Mathlib.Omega.{arith}
 use mathlib.Core.Path.{_≡_, refl, ap, _∙_}
-use mathlib.Core.Bool.{Bool, true, false, cond}
+use mathlib.Core.Bool.{Bool, true, false}
 use borrow.Author.Tests.{ne-eqb}
 use lib.Dec.{eqb}
 use lib.ListN.{length, length-set}
@@ -13,15 +13,12 @@ use Rattle.machine.specs.declared.Psw.{Psw}
 use Rattle.machine.specs.Words.{bit}
 use Rattle.machine.specs.Psw.{withPsw, withGeneral, withConditionCode, conditionCode, general}
 use Rattle.machine.specs.Execute.{sumCode, withSum}
+use Rattle.machine.proofs.Tests.{on-either-arm}
 
 -- without an overflow it is 0, 1 or 2
 code-below-three : (sum : ℕ) → sumCode sum false < 3
 unfolding sumCode
-code-below-three sum = either (eqb sum 0) (omega arith) (either (bit 32 0 sum) (omega arith) (omega arith))
-  where
-    either : (b : Bool) {m n : ℕ} → m < 3 → n < 3 → cond b m n < 3
-    either true p q = p
-    either false p q = q
+code-below-three sum = on-either-arm (λ n. n < 3) (eqb sum 0) (omega arith) (on-either-arm (λ n. n < 3) (bit 32 0 sum) (omega arith) (omega arith))
 
 pub small-code : (sum : ℕ) (overflow : Bool) → sumCode sum overflow < 4
 unfolding sumCode

@@ -2,7 +2,7 @@
 -- Assumes nothing.
 use Prim.Native.Nat.{ℕ, _+_, _<_}
 use native.Mathlib.Omega.{arith}
-use mathlib.Core.Bool.{Bool, true, false, cond, not, _&&_}
+use mathlib.Core.Bool.{Bool, not, _&&_}
 use mathlib.Core.List.{List}
 use lib.Dec.{leb, ltb}
 use lib.ListN.{length}
@@ -20,6 +20,7 @@ use Rattle.machine.specs.Failures.{segmentTranslation, pageTranslation, transla
 use Rattle.machine.specs.Walk.{segmentIndex, pastSegmentTable, segmentInvalid, segmentMalformed, pastPageTable, pageInvalid, pageMalformed, walkPage, walkSegment, walk}
 use Rattle.machine.specs.Host.{Host, Cell, absent, present, hostEntry, inStorage, hostPage, backing, cellOf, view}
 use Rattle.machine.specs.Addresses.{prefixed, entryOf, guestEntry, formatGood, realPage, lowProtected, Access, reached, denied, settle, realAccess, inPage, access}
+use Rattle.machine.proofs.Tests.{on-either-arm}
 
 abbrev pub Coded : Failure → Type 0
 Coded f = f .code < 256
@@ -40,11 +41,6 @@ abbrev pub CodedAccess : Access → Type 0
 CodedAccess (reached l) = Unit {0}
 CodedAccess (denied f) = Coded f
 
--- what holds of both arms of a test holds of the test
-pub either : {A : Type 0} (P : A → Type 0) (b : Bool) {x y : A} → P x → P y → P (cond b x y)
-either P true p q = p
-either P false p q = q
-
 -- the walk
 
 module _ (read : ℕ → TableEntry) (fail : ℕ → Failure) (reads : (at : ℕ) → CodedEntry (read at)) (fails : (code : ℕ) → code < 256 → Coded (fail code)) where
@@ -52,35 +48,35 @@ module _ (read : ℕ → TableEntry) (fail : ℕ → Failure) (reads : (at : ℕ
   unfolding walkPage
   coded-page (Unread f) small = small
   coded-page (Word e) small =
-      either CodedWalk (pageInvalid e) (fails pageTranslation (omega arith)) (either CodedWalk (pageMalformed e) (fails translationSpecification (omega arith)) tt)
+      on-either-arm CodedWalk (pageInvalid e) (fails pageTranslation (omega arith)) (on-either-arm CodedWalk (pageMalformed e) (fails translationSpecification (omega arith)) tt)
 
   coded-segment : (index : ℕ) (e : TableEntry) → CodedEntry e → CodedWalk (walkSegment read fail index e)
   unfolding walkSegment
   coded-segment index (Unread f) small = small
   coded-segment index (Word e) small =
-      either CodedWalk (segmentInvalid e) (fails segmentTranslation (omega arith))
-      (either CodedWalk (segmentMalformed e) (fails translationSpecification (omega arith))
-      (either CodedWalk (pastPageTable e index) (fails pageTranslation (omega arith)) (coded-page _ (reads _))))
+      on-either-arm CodedWalk (segmentInvalid e) (fails segmentTranslation (omega arith))
+      (on-either-arm CodedWalk (segmentMalformed e) (fails translationSpecification (omega arith))
+      (on-either-arm CodedWalk (pastPageTable e index) (fails pageTranslation (omega arith)) (coded-page _ (reads _))))
 
   coded-walk : (d a : ℕ) → CodedWalk (walk read fail d a)
   unfolding walk
-  coded-walk d a = either CodedWalk (pastSegmentTable d (segmentIndex a)) (fails segmentTranslation (omega arith)) (coded-segment _ _ (reads _))
+  coded-walk d a = on-either-arm CodedWalk (pastSegmentTable d (segmentIndex a)) (fails segmentTranslation (omega arith)) (coded-segment _ _ (reads _))
 
 -- the host behind the guest
 
 coded-host-entry : (s : List ℕ) (v at : ℕ) → CodedEntry (hostEntry s v at)
 unfolding hostEntry
-coded-host-entry s v at = either CodedEntry (leb (at + 4) (length s)) tt (omega arith)
+coded-host-entry s v at = on-either-arm CodedEntry (leb (at + 4) (length s)) tt (omega arith)
 
 coded-in-storage : (s : List ℕ) (v : ℕ) (w : Walk) → CodedWalk w → CodedWalk (inStorage s v w)
 unfolding inStorage
 coded-in-storage s v (Failed f) small = small
-coded-in-storage s v (Page frame protected) small = either CodedWalk (ltb frame (framesOf s)) tt (omega arith)
+coded-in-storage s v (Page frame protected) small = on-either-arm CodedWalk (ltb frame (framesOf s)) tt (omega arith)
 
 pub coded-backing : (g : Guest) (h : Host) (a : ℕ) → CodedWalk (backing g h a)
 unfolding backing hostPage
 coded-backing g h a =
-    either CodedWalk (ltb a (extentBytes g)) (coded-in-storage _ _ _ (coded-walk _ _ (coded-host-entry _ _) (λ code small. small) _ _)) (omega arith)
+    on-either-arm CodedWalk (ltb a (extentBytes g)) (coded-in-storage _ _ _ (coded-walk _ _ (coded-host-entry _ _) (λ code small. small) _ _)) (omega arith)
 
 coded-cell : (h : Host) (a : ℕ) (w : Walk) → CodedWalk w → CodedCell (cellOf h a w)
 unfolding cellOf
@@ -106,7 +102,7 @@ module _ (g : Guest) (v : ℕ → Cell) (cells : (a : ℕ) → CodedCell (v a)) 
   unfolding settle
   coded-settle store protects a (absent f) small = small
   coded-settle store protects a (present byte key protected) small =
-      either CodedAccess (protects key) (omega arith) (either CodedAccess (store && protected) (omega arith) tt)
+      on-either-arm CodedAccess (protects key) (omega arith) (on-either-arm CodedAccess (store && protected) (omega arith) tt)
 
   pub coded-real-access : (store : Bool) (real : ℕ) → CodedAccess (realAccess g v store real)
   unfolding realAccess
@@ -116,8 +112,8 @@ module _ (g : Guest) (v : ℕ → Cell) (cells : (a : ℕ) → CodedCell (v a)) 
     coded-real-page : (a : ℕ) → CodedWalk (realPage g v c a)
     unfolding realPage walkException
     coded-real-page a =
-        either CodedWalk (not (datOn c)) tt
-        (either CodedWalk (not (formatGood c)) (omega arith) (coded-walk _ _ coded-guest-entry (λ code small. small) _ _))
+        on-either-arm CodedWalk (not (datOn c)) tt
+        (on-either-arm CodedWalk (not (formatGood c)) (omega arith) (coded-walk _ _ coded-guest-entry (λ code small. small) _ _))
 
     coded-in-page : (store : Bool) (a : ℕ) (w : Walk) → CodedWalk w → CodedAccess (inPage g v c store a w)
     unfolding inPage
@@ -126,4 +122,4 @@ module _ (g : Guest) (v : ℕ → Cell) (cells : (a : ℕ) → CodedCell (v a)) 
 
     pub coded-access : (store : Bool) (a : ℕ) → CodedAccess (access g v c store a)
     unfolding access
-    coded-access store a = either CodedAccess (store && lowProtected c a) (omega arith) (coded-in-page store a _ (coded-real-page a))
+    coded-access store a = on-either-arm CodedAccess (store && lowProtected c a) (omega arith) (coded-in-page store a _ (coded-real-page a))

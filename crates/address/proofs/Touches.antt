@@ -26,11 +26,11 @@ use Rattle.machine.specs.Host.{Host, Cell, host, hostVirtual, inFrame, backing,
 use Rattle.machine.specs.Addresses.{prefixed, formatGood, byteOf, entryOf, guestEntry, settle, inPage, lowProtected, realPage, access, reached, denied}
 use Rattle.machine.proofs.Backing.{no-failure, tested, ends-at-page, page-in-storage}
 use Rattle.machine.proofs.Pages.{prefixed-keeps-offset, backing-in-page, backing-in-storage}
+use Rattle.machine.proofs.Tests.{on-either-arm}
 use Rattle.storage.specs.Steps.{tableLeads, segmentLeads}
 use Rattle.storage.proofs.Steps.{walk-in-steps}
 use Rattle.address.specs.Touching.{Aligned, Inside, Small, Backed, entryBehind, settled, guestProtects, touched, placed, touchedBy}
 use Rattle.address.specs.declared.Place.the-variants.{At, Denied}
-use Rattle.address.proofs.Codes.{either}
 
 -- the keys play no part in the host page behind an address
 pub backing-keyless : (g : Guest) (d : ℕ) (s k : List ℕ) (a : ℕ) → backing g (host d s k) a ≡ backing g (host d s []) a
@@ -102,26 +102,26 @@ inside-backing g d s a = by-walk (backing g (host d s []) a) refl
 
 pub aligned-tableLeads : (fail : ℕ → Failure) (d a : ℕ) → Aligned (tableLeads fail d a)
 unfolding tableLeads
-aligned-tableLeads fail d a = either Aligned (pastSegmentTable d (segmentIndex a)) tt (omega arith)
+aligned-tableLeads fail d a = on-either-arm Aligned (pastSegmentTable d (segmentIndex a)) tt (omega arith)
 
 pub aligned-segmentLeads : (fail : ℕ → Failure) (index : ℕ) (e : TableEntry) → Aligned (segmentLeads fail index e)
 unfolding segmentLeads
 aligned-segmentLeads fail index (Unread f) = tt
 aligned-segmentLeads fail index (Word e) =
-    either Aligned (segmentInvalid e) tt (either Aligned (segmentMalformed e) tt (either Aligned (pastPageTable e index) tt (omega arith)))
+    on-either-arm Aligned (segmentInvalid e) tt (on-either-arm Aligned (segmentMalformed e) tt (on-either-arm Aligned (pastPageTable e index) tt (omega arith)))
 
 -- the real page of an address of 32 bits
 
 small-walkPage : (fail : ℕ → Failure) (e : TableEntry) → Small (walkPage fail e)
 unfolding walkPage
 small-walkPage fail (Unread f) = tt
-small-walkPage fail (Word e) = either Small (pageInvalid e) tt (either Small (pageMalformed e) tt (omega arith))
+small-walkPage fail (Word e) = on-either-arm Small (pageInvalid e) tt (on-either-arm Small (pageMalformed e) tt (omega arith))
 
 pub small-realPage : (g : Guest) (v : ℕ → Cell) (c : Cpu) (a : ℕ) → a < 2 ^ 32 → Small (realPage g v c a)
 unfolding realPage
 small-realPage g v c a small =
-    either Small (not (datOn c)) {x = Page (a / pageBytes) false} (omega arith)
-    (either Small (not (formatGood c)) tt (rw walk-in-steps (small-walkPage (walkException a) _)))
+    on-either-arm Small (not (datOn c)) {u = Page (a / pageBytes) false} (omega arith)
+    (on-either-arm Small (not (formatGood c)) tt (rw walk-in-steps (small-walkPage (walkException a) _)))
 
 -- what is found behind a guest absolute address
 pub backed-backing : (g : Guest) (d : ℕ) (s k : List ℕ) (a : ℕ) → framesOf s ≤ length k → Backed g k a (backing g (host d s []) a)

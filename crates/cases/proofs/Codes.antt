@@ -25,7 +25,8 @@ use Rattle.machine.specs.Interruptions.{Areas, interrupt, afterException, excep
 use Rattle.machine.specs.Execute.{operandAddress, finish, fetching, storing, summed, branch, execute, loadRegister, add, subtract, branchRegister, branchIndexed, supervisorCall, loadAddress, store, load, loadPsw, storeControl, loadControl, storeClock, setTimer, storeTimer, interceptInstruction}
 use Rattle.machine.specs.Units.{intercepts, misaligned, decoded, halfword, reading, fetchThird, fetchSecond, started, instruction, unit}
 use Rattle.machine.specs.Run.{Machine, counted, onward, unitFrom, afterUnit, stepOf, step, run}
-use Rattle.address.proofs.Codes.{Coded, CodedCell, CodedAccess, either, coded-view, coded-real-access, coded-access}
+use Rattle.machine.proofs.Tests.{on-either-arm}
+use Rattle.address.proofs.Codes.{Coded, CodedCell, CodedAccess, coded-view, coded-real-access, coded-access}
 
 abbrev CodedAccesses : Accesses → Type 0
 CodedAccesses (all ls) = Unit {0}
@@ -67,7 +68,7 @@ module _ (x : Progress) (cells : (a : ℕ) → CodedCell (x .view a)) where
 
   coded-exception : (c : Cpu) (f : Failure) → Coded f → CodedOutcome (exception x c f)
   unfolding exception
-  coded-exception c f small = search (either CodedOutcome, exits, faults, coded-interrupt (afterException x c f))
+  coded-exception c f small = search (on-either-arm CodedOutcome, exits, faults, coded-interrupt (afterException x c f))
 
   coded-fetching : (a n : ℕ) (after : List ℕ → Cpu) → CodedOutcome (fetching x a n after)
   unfolding fetching finish
@@ -82,7 +83,7 @@ module _ (x : Progress) (cells : (a : ℕ) → CodedCell (x .view a)) where
   coded-summed : (sum : ℕ) (overflow : Bool) → CodedOutcome (summed x sum overflow)
   unfolding summed finish
   coded-summed sum overflow =
-      either CodedOutcome (overflow && overflowEnabled (x .cpu)) (coded-exception _ (exceptionOf fixedPointOverflow) (omega arith)) completes
+      on-either-arm CodedOutcome (overflow && overflowEnabled (x .cpu)) (coded-exception _ (exceptionOf fixedPointOverflow) (omega arith)) completes
 
   coded-execute : (class : Class) → CodedOutcome (execute class x)
   unfolding execute loadRegister add subtract branchRegister branchIndexed supervisorCall loadAddress store load loadPsw
@@ -108,10 +109,10 @@ module _ (x : Progress) (cells : (a : ℕ) → CodedCell (x .view a)) where
   coded-decoded : (o : Opcode) → CodedOutcome (decoded x o)
   unfolding decoded interceptInstruction
   coded-decoded o =
-      either CodedOutcome (sameClass (o .class) Unassigned) (coded-exception _ (exceptionOf operation) (omega arith))
-      (either CodedOutcome (o .privileged && problemState (x .cpu)) (coded-exception _ (exceptionOf privilegedOperation) (omega arith))
-      (either CodedOutcome (intercepts (o .class) x) exits
-      (either CodedOutcome (misaligned (o .alignment) (operandAddress x)) (coded-exception _ (exceptionOf specification) (omega arith))
+      on-either-arm CodedOutcome (sameClass (o .class) Unassigned) (coded-exception _ (exceptionOf operation) (omega arith))
+      (on-either-arm CodedOutcome (o .privileged && problemState (x .cpu)) (coded-exception _ (exceptionOf privilegedOperation) (omega arith))
+      (on-either-arm CodedOutcome (intercepts (o .class) x) exits
+      (on-either-arm CodedOutcome (misaligned (o .alignment) (operandAddress x)) (coded-exception _ (exceptionOf specification) (omega arith))
       (coded-execute (o .class)))))
 
   coded-halfword : (n : ℕ) → CodedAccesses (halfword x n)
@@ -121,25 +122,25 @@ module _ (x : Progress) (cells : (a : ℕ) → CodedCell (x .view a)) where
 coded-third : (x : Progress) → ((a : ℕ) → CodedCell (x .view a)) → CodedOutcome (fetchThird x)
 unfolding fetchThird reading
 coded-third x cells =
-    either CodedOutcome (ltb (x .text .ilc) 3) (coded-decoded x cells _)
+    on-either-arm CodedOutcome (ltb (x .text .ilc) 3) (coded-decoded x cells _)
     (reached-or-not _ (coded-halfword x cells 2) (coded-exception x cells (x .cpu)) λ third. coded-decoded _ cells _)
 
 coded-second : (x : Progress) → ((a : ℕ) → CodedCell (x .view a)) → CodedOutcome (fetchSecond x)
 unfolding fetchSecond reading
 coded-second x cells =
-    either CodedOutcome (ltb (x .text .ilc) 2) (coded-decoded x cells _)
+    on-either-arm CodedOutcome (ltb (x .text .ilc) 2) (coded-decoded x cells _)
     (reached-or-not _ (coded-halfword x cells 1) (coded-exception x cells (x .cpu)) λ second. coded-third _ cells)
 
 coded-instruction : (x : Progress) → ((a : ℕ) → CodedCell (x .view a)) → CodedOutcome (instruction x)
 unfolding instruction reading
 coded-instruction x cells =
-    either CodedOutcome (eqb (instructionAddress (x .cpu) % 2) 1) (coded-exception x cells (x .cpu) (exceptionOf specification) (omega arith))
+    on-either-arm CodedOutcome (eqb (instructionAddress (x .cpu) % 2) 1) (coded-exception x cells (x .cpu) (exceptionOf specification) (omega arith))
     (reached-or-not _ (coded-halfword x cells 0) (coded-exception x cells (x .cpu)) λ first. coded-second _ cells)
 
 coded-unit : (g : Guest) (clock : ℕ) (v : ℕ → Cell) (c : Cpu) → ((a : ℕ) → CodedCell (v a)) → CodedOutcome (unit g clock v c)
 unfolding unit
 coded-unit g clock v c cells =
-    search (either CodedOutcome, exits, coded-exception (started g clock v c 0) cells c (exceptionOf specification) (omega arith), coded-instruction (started g clock v c 1) cells) depth 9
+    search (on-either-arm CodedOutcome, exits, coded-exception (started g clock v c 0) cells c (exceptionOf specification) (omega arith), coded-instruction (started g clock v c 1) cells) depth 9
 
 -- the run
 

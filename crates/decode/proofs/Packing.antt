@@ -13,6 +13,7 @@ use Rattle.machine.specs.declared.Class.{Class}
 use Rattle.machine.specs.declared.Class.the-variants.{Lr, Ar, Sr, Bcr, Svc, La, Bc, St, L, Lpsw, Stctl, Lctl, Stck, Spt, Stpt, Mandatory, Unassigned}
 use Rattle.machine.specs.Words.{bits}
 use Rattle.machine.specs.Opcodes.{codeOf, Row, row, lengthOf, numberOf, opcodes, find, opcodeOf}
+use Rattle.machine.proofs.Tests.{on-either-arm}
 use Rattle.decode.specs.Packing.{lengthOfNumber, packed}
 
 -- a place of a packed list has the packing of the row there
@@ -87,11 +88,8 @@ aligned-at (r ∷ rows) none e last (suc k) = aligned-at rows none (both (aligne
 aligned-found : (n : ℕ) (rows : List Row) → all-aligned rows ≡ true → aligned (find n rows) ≡ true
 unfolding all-aligned aligned find
 aligned-found n [] e = refl
-aligned-found n (r ∷ rows) e = either (eqb n (r .number)) (both (aligned r) _ e .0) (aligned-found n rows (both (aligned r) _ e .1))
-  where
-    either : (b : Bool) → aligned r ≡ true → aligned (find n rows) ≡ true → aligned (cond b r (find n rows)) ≡ true
-    either true here later = here
-    either false here later = later
+aligned-found n (r ∷ rows) e =
+    on-either-arm (λ found. aligned found ≡ true) (eqb n (r .number)) (both (aligned r) _ e .0) (aligned-found n rows (both (aligned r) _ e .1))
 
 -- the row at a place of the table, and one that is unassigned past its end
 abbrev pub rowAt : ℕ → Row

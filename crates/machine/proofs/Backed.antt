@@ -35,11 +35,11 @@ use Rattle.machine.specs.Units.{decoded, halfword, reading, fetchThird, 
 use Rattle.machine.specs.Run.{Machine, counted, onward, hostOf, unitFrom, behindOf, afterUnit, stepOf, step, run}
 use Rattle.machine.specs.Operations.{resultOf, machineOf}
 use Rattle.machine.specs.Theorems.{HasPage, Each, none, more, EffectsAreBacked, FaultsAreTheHosts}
+use Rattle.machine.proofs.Tests.{on-either-arm, by-test}
 use Rattle.machine.proofs.Laws.{guest-of-withCpu, guest-of-withResults}
 use Rattle.machine.proofs.Runs.{runOf-cases}
 use Rattle.machine.proofs.Entry.{entry-placed}
 use Rattle.machine.proofs.Backing.{read-or-not}
-use Rattle.machine.proofs.Timer.{on-either-arm}
 
 each-append : {P : ℕ → Type 0} {l m : List ℕ} → Each P l → Each P m → Each P (l ++ m)
 each-append none h = h
@@ -61,11 +61,6 @@ each-upFrom limit a (suc n) h = more {a = a} (omega arith) (each-upFrom limit (a
 fields-short : (x : Progress) (f : Failure) → length (programFields x f) ≤ 8
 unfolding programFields
 fields-short x f = on-either-arm (λ address. length (codeFields (x .text .ilc) (f .code) ++ address) ≤ 8) (isTranslation (f .code)) (omega arith) (omega arith)
-
--- what holds of both arms of a test, of the first where the test is true, holds of the test
-by-test : {A : Type 0} (P : A → Type 0) (b : Bool) {u v : A} → (b ≡ true → P u) → P v → P (cond b u v)
-by-test P true p q = p refl
-by-test P false p q = q
 
 module _ (g : Guest) (v : ℕ → Cell) (H : Failure → Type 0) (of-host : (f : Failure) → f .host ≡ true → H f)
     (covered : (i : ℕ) (f : Failure) → i < pageBytes → v (g .prefix * pageBytes + i) ≡ absent f → H f) where

@@ -36,14 +36,10 @@ use Rattle.machine.specs.Run.{Machine, Ended, counted, onward, unitFrom,
 use Rattle.machine.specs.Refusals.{runVerdict}
 use Rattle.machine.specs.Operations.{Result, resultOf, machineOf}
 use Rattle.machine.specs.Theorems.{AtSpt, Uncharged, TimerFalls, ExitChargesNothing}
+use Rattle.machine.proofs.Tests.{on-either-arm}
 use Rattle.machine.proofs.Verdicts.{accepted-length}
 use Rattle.machine.proofs.Runs.{runOf-cases}
 use Rattle.machine.proofs.Laws.{double-of-bytes, length-withCpu, length-withResults, timer-of-withCpu, byte-of-withResults, length-endResults}
-
--- what holds of both arms of a test holds of the test
-pub on-either-arm : {A : Type 0} (P : A → Type 0) (b : Bool) {u v : A} → P u → P v → P (cond b u v)
-on-either-arm P true p q = p
-on-either-arm P false p q = q
 
 -- what holds where a byte is not reached, and where all are, holds of `whenReached`
 reached-or-not : {A : Type 0} (P : A → Type 0) (a : Accesses) {otherwise : Failure → A} {onward : List Located → A} → ((f : Failure) → P (otherwise f))

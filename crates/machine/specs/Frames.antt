@@ -1,5 +1,5 @@
 -- Document 01, "Addresses", the paragraph before "Instructions": the entries that describe the extent, valid pages, guest frames.
-use Prim.Native.Nat.{ℕ, _+_, _*_, _/_, _%_, _≤_, _<_}
+use Prim.Native.Nat.{ℕ, _+_, _*_, _≤_, _<_}
 use mathlib.Core.Path.{_≡_}
 use mathlib.Core.Bool.{true, false}
 use mathlib.Core.List.{List}
