@@ -32,6 +32,15 @@ def write(text, *names):
         file.write(text)
 
 
+CRATES = [line.split(":")[0] for line in read(ROOT, "crates.txt").splitlines()]
+PASSED = f"{len(CRATES) + 1} passed, 0 failed"  # the stand-in refuses one must-fail edit
+
+
+def progress(crate):
+    """How the line begins that tells how a crate's check ended."""
+    return f"crate {CRATES.index(crate) + 1} of {len(CRATES)}, {crate}, "
+
+
 def wait_for(what):
     """Waits until what() holds, and answers whether it came to that."""
     end = time.monotonic() + SECONDS
@@ -153,13 +162,13 @@ class Build(Copy):
     DEMO = read(ROOT, "examples/run.expected")
 
     def test_progress(self):
-        crates = [line.split(":")[0] for line in read(ROOT, "crates.txt").splitlines()]
-        lines = self.passes("make", "demo").splitlines()
-        self.assertIn("target/proofs.log", lines[0])
-        self.assertEqual(lines[1:23], [f"crate {n} of 22, {name}, 3 s" for n, name in enumerate(crates, 1)])
-        self.assertEqual([lines[23], lines[25]], ["ok, 22 crates proved", "Built target/bin/drevokas."])
-        self.assertRegex(lines[24], r"^library target/staticlib/libdrevokas.a, \d+ s$")
-        self.assertEqual("\n".join(lines[26:]) + "\n", self.DEMO)
+        head, *lines = self.passes("make", "demo").splitlines()
+        self.assertIn("target/proofs.log", head)
+        crates, (proved, library, built), demo = lines[:len(CRATES)], lines[len(CRATES):][:3], lines[len(CRATES) + 3:]
+        self.assertEqual(crates, [progress(name) + "3 s" for name in CRATES])
+        self.assertEqual([proved, built], [f"ok, {len(CRATES)} crates proved", "Built target/bin/drevokas."])
+        self.assertRegex(library, r"^library target/staticlib/libdrevokas.a, \d+ s$")
+        self.assertEqual("\n".join(demo) + "\n", self.DEMO)
         self.assertIn("fn storage::first: proved\n", read(self.top, "target/proofs.log"))
         self.assertEqual(self.has(LIBRARY, PROGRAM, COMMAND), [LIBRARY, PROGRAM, COMMAND])
 
@@ -177,7 +186,7 @@ class Build(Copy):
         process, terminal = self.start_at_terminal("make", "demo")
         printed = read_terminal(terminal)
         self.assertEqual(exit_status(process), 0)
-        self.assertIn("\ncrate 22 of 22, case, 3 s\n", printed)
+        self.assertIn("\n" + progress("case") + "3 s\n", printed)
         self.assertTrue(printed.endswith("\n" + self.DEMO) and printed.replace("\n", "").isprintable(), printed)
 
     def test_compiler_shown(self):
@@ -193,11 +202,11 @@ class Build(Copy):
     def test_proof_fails(self):
         for words in [["make", "demo"], ["make", "gate"]]:
             printed = self.fails(*words, FAILS="storage")
-            self.assertIn("crate 4 of 22, storage, NOT PROVED (exit 1, 3 s)\n    note: /crates/storage/src/lib.rt:1:", printed)
+            self.assertIn(progress("storage") + "NOT PROVED (exit 1, 3 s)\n    note: /crates/storage/src/lib.rt:1:", printed)
             self.assertIn("all that it said is in target/", printed)
             self.assertEqual(self.has(LIBRARY), [])
         self.assertNotIn("passed, 0 failed", printed)
-        self.assertIn("crate 4 of 22, storage, 3 s", self.passes("make", "demo"))
+        self.assertIn(progress("storage") + "3 s", self.passes("make", "demo"))
 
     def test_missing(self):
         self.passes("make")
@@ -226,11 +235,11 @@ class Gate(Copy):
     def test_gate(self):
         for words in [["make", "gate"], ["make", "-j4", "gate"], ["make", "-s", "gate"], ["sh", "tests/gate.sh"]]:
             printed = self.passes(*words)
-            self.assertEqual(printed.splitlines()[-1], "23 passed, 0 failed")
+            self.assertEqual(printed.splitlines()[-1], PASSED)
             self.assertIn("\nedit 1 of ", printed)
             self.assertIn(", adder/sum, refused, 7 s\nprogram case, ran and wrote what it must, 0 s\n", printed)
             self.assertEqual(self.has(LIBRARY, PROGRAM, COMMAND), [LIBRARY, PROGRAM, COMMAND])
-            self.assertIn("23 passed, 0 failed", read(self.top, "target/gate.log"))
+            self.assertIn(PASSED, read(self.top, "target/gate.log"))
         self.calls()
         self.assertEqual(self.passes("make", "demo"), Build.DEMO)
         self.assertEqual(self.calls(), [])
@@ -240,7 +249,7 @@ class Gate(Copy):
         for more in [{}, STRANGE]:
             p = subprocess.run([os.path.join(self.top, ".ci/run")], cwd="/", env=dict(self.environment, **more),
                                stdout=subprocess.PIPE, stderr=subprocess.STDOUT, timeout=SECONDS)
-            self.assertEqual((p.returncode, p.stdout.decode().splitlines()[-1]), (0, "23 passed, 0 failed"))
+            self.assertEqual((p.returncode, p.stdout.decode().splitlines()[-1]), (0, PASSED))
 
     def test_part_fails(self):
         for parts in [PARTS[1:2], PARTS]:
@@ -273,7 +282,7 @@ class Interrupted(Copy):
         self.interrupt("gate", lambda process, terminal: os.write(terminal, b"\x03"))
         self.interrupt("gate", lambda process, terminal: os.killpg(process, signal.SIGHUP))
         self.assertTrue(self.passes("make", "demo").endswith(Build.DEMO))
-        self.assertTrue(self.passes("make", "gate").endswith("23 passed, 0 failed\n"))
+        self.assertTrue(self.passes("make", "gate").endswith(PASSED + "\n"))
 
 
 class Environment(unittest.TestCase):
