@@ -1,7 +1,7 @@
 #!/bin/sh
 # The gate, which make gate runs: the sources' layout; every proof, every must-fail edit and the program, from nothing (rt ci);
-# then library and command are built and all tests are run, those in Rust beside the others. The last line is that of rt ci,
-# printed when all has passed; otherwise what failed is named, and the exit status is 1.
+# then library and command are built and all tests are run, tests/rust and tests/tools beside the others. The last line is that
+# of rt ci, printed when all has passed; otherwise what failed is named, and the exit status is 1.
 set -eu
 . "$(dirname "$0")/../tools/plain.sh"
 cd "$(dirname "$0")/.."
@@ -30,10 +30,10 @@ install_valgrind() {
     apt-get update -qq && apt-get install -y -qq valgrind
 }
 
-# Waits for the tests in Rust, which were started before; shows what they printed if they failed.
-rust_tests() {
-    wait "$rust" && return
-    cat target/rust.log
+# Waits for tests that were started before; shows what they printed if they failed.
+ended() { # PROCESS LOG
+    wait "$1" && return
+    cat "$2"
     return 1
 }
 
@@ -47,12 +47,15 @@ part 'proofs and must-fail edits' sh tools/progress.sh "$LOG" "$crates" ci
 stop_if_failed
 part build make all
 stop_if_failed
-echo "gate: tests/rust, beside the others; what they print goes to target/rust.log"
+echo "gate: tests/rust and tests/tools, beside the others; what they print goes to target/rust.log and target/tools.log"
 sh tests/rust/run.sh > target/rust.log 2>&1 &
 rust=$!
-for folder in tests/cases tests/c tests/tools shell/tests tests/docs; do
+sh tests/tools/run.sh > target/tools.log 2>&1 &
+tools=$!
+for folder in tests/cases tests/c shell/tests tests/docs; do
     part "$folder" sh "$folder/run.sh"
 done
-part tests/rust rust_tests
+part tests/tools ended "$tools" target/tools.log
+part tests/rust ended "$rust" target/rust.log
 stop_if_failed
 tail -n 1 "$LOG"

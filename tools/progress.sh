@@ -8,10 +8,10 @@ shift 2
 edits=$(find crates -path '*/must-fail/*.edit' | wc -l)
 crate=0 edit=0 errors='' count=0 status=2 began=$(date +%s)
 
-# rt works in batches, each of which waits for its slowest: three jobs a processor leave few processors idle. Each takes up to
-# 700 MB, so there are no more than twelve.
+# One job a processor: with three, each takes a tenth more of the processor's time. A job takes up to 2 GB, so there are no more
+# than twelve.
 processors=$(nproc)
-RT_JOBS=${RT_JOBS:-$((processors < 4 ? processors * 3 : 12))}
+RT_JOBS=${RT_JOBS:-$((processors < 12 ? processors : 12))}
 export RT_JOBS
 
 # The seconds in a line of rt that ends with "N s)".

@@ -242,8 +242,7 @@ fn interrupt_open(
         i.long,
     );
     mark_text(keys, t);
-    writer::mark_fetched(keys, frame);
-    writer::mark_stored(keys, frame);
+    writer::mark_areas(keys, frame);
     ended_with(Event::Completed, after, Psw { left, right })
 }
 

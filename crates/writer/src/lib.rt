@@ -126,6 +126,15 @@ pub fn mark_stored(keys: &mut [u8], frame: u32)
     keys[i] = key + 2;
 }
 
+// The marks of the frame of an interruption's areas, which is fetched from and stored into.
+pub fn mark_areas(keys: &mut [u8], frame: u32)
+    requires { ⌜ frame < length (now keys) ⌝ }
+    ensures { λ _. ⌜ now (keys .exit) ≡ markFrame changed frame (markFrame referenced frame (now (keys .entry))) ⌝ }
+{
+    mark_fetched(keys, frame);
+    mark_stored(keys, frame);
+}
+
 // The marks of an operand of `n` bytes that was fetched or stored.
 fn mark_operand_fetched(keys: &mut [u8], n: u32, first: u32, count: u32, second: u32)
     requires { ⌜ first / 4096 < length (now keys) ⌝ }

@@ -59,16 +59,10 @@ put-areas-requires c κs = search needs
 mark-text-requires : tie.Need-mark-text-requires
 mark-text-requires c κs = search needs
 
-mark-fetched-requires : tie.Need-mark-fetched-requires
-mark-fetched-requires c κs =
+mark-areas-requires : tie.Need-mark-areas-requires
+mark-areas-requires c κs =
     let back20 = c .before .before .before .before .before .before .before .before .before .before .before .before .before .before .before .before .before .before .before .before in
     let key = back20 .pre .0 .1 in
-    search needs
-
-mark-stored-requires : tie.Need-mark-stored-requires
-mark-stored-requires c κs =
-    let back24 = c .before .before .before .before .before .before .before .before .before .before .before .before .before .before .before .before .before .before .before .before .before .before .before .before in
-    let key = back24 .pre .0 .1 in
     search needs
 
 ended-with-requires : tie.Need-ended-with-requires
@@ -83,17 +77,16 @@ same-length-2 c = search needs
 returns : tie.Need-returns
 unfolding leftBy withPsw pswOf
 returns c =
-    let back7 = c .before .before .before .before .before .before .before in
+    let back3 = c .before .before .before in
+    let back7 = back3 .before .before .before .before in
     let back11 = back7 .before .before .before .before in
-    let back15 = back11 .before .before .before .before in
-    let back20 = back15 .before .before .before .before .before in
-    let back23 = back20 .before .before .before in
-    let back28 = back23 .before .before .before .before .before in
-    let a = back28 .args in
-    let ended = c .ended-with .ensures in
-    let fetched = back7 .mark-fetched .ensures ∙ ap (markFrame referenced (a .frame)) (back11 .mark-text .ensures) in (
-      (ap (λ d. d .event) ended, λ k. ap (leftBy k) ended ∙ ap (withPsw (leftBy k (a .after))) (λ i. record { left = back23 .word-at .ensures i; right = back20 .word-at2 .ensures i })),
-      (rw (back15 .put-areas .ensures) (areas-in-frame (a .storage .now) (a .frame) (a .after .psw) (a .i) (back28 .pre .1 .0) (back28 .pre .1 .1)), c .before .before .before .mark-stored .ensures ∙ ap (markFrame changed (a .frame)) fetched),
+    let back16 = back11 .before .before .before .before .before in
+    let back19 = back16 .before .before .before in
+    let back24 = back19 .before .before .before .before .before in
+    let a = back24 .args in
+    let ended = c .ended-with .ensures in (
+      (ap (λ d. d .event) ended, λ k. ap (leftBy k) ended ∙ ap (withPsw (leftBy k (a .after))) (λ i. record { left = back19 .word-at .ensures i; right = back16 .word-at2 .ensures i })),
+      (rw (back11 .put-areas .ensures) (areas-in-frame (a .storage .now) (a .frame) (a .after .psw) (a .i) (back24 .pre .1 .0) (back24 .pre .1 .1)), back3 .mark-areas .ensures ∙ ap (λ k. markFrame changed (a .frame) (markFrame referenced (a .frame) k)) (back7 .mark-text .ensures)),
     )
 
 pub interrupt-open-spec : {M : Type 1} → statement M
@@ -116,8 +109,7 @@ interrupt-open-spec =
     cast-put-areas-2
     put-areas-requires
     mark-text-requires
-    mark-fetched-requires
-    mark-stored-requires
+    mark-areas-requires
     ended-with-requires
     same-length
     same-length-2
