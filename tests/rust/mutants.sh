@@ -1,23 +1,31 @@
 #!/bin/sh
-# Mutates the model in many small ways and checks that `compare`, with its default cases and seed, finds each.
-# Not in the gate. Takes some minutes. With arguments: only the mutants whose names contain one of these words.
+# Mutates the model in many small ways and checks that `compare`, with its default cases and seed, finds each; those of request
+# 1/12 must be found by tests/system_370.rs too. Not in the gate. Takes some minutes. With arguments: only the mutants whose names
+# contain one of these words. A library that does not take the record of 208 bytes gives place to the model itself, standin.rs.
 set -u
 . "$(dirname "$0")/../../tools/plain.sh"
 package=$(cd "$(dirname "$0")" && pwd)
 DREVOKAS_LIB=$(cd "${DREVOKAS_LIB:-$package/../../target/staticlib}" && pwd) || exit 2
-export DREVOKAS_LIB
+CARGO_TARGET_DIR=target
+export DREVOKAS_LIB CARGO_TARGET_DIR
 scratch=$(mktemp -d) || exit 2
 trap 'rm -rf "$scratch"' EXIT
 mkdir "$scratch/package"
-cp -R "$package/src" "$package/build.rs" "$package/Cargo.toml" "$scratch/package/"
+cp -R "$package/src" "$package/tests" "$package/build.rs" "$package/standin.rs" "$package/Cargo.toml" "$scratch/package/"
 cd "$scratch/package" || exit 2
+cargo build --release --offline --quiet --bin compare || exit 2
+if target/release/compare 0 | grep -q 'does not take the record of 208 bytes'; then
+    echo 'the library does not take the record of 208 bytes: the model stands in for it'
+    DREVOKAS_LIB=$scratch
+    rustc --edition 2021 -O --crate-type staticlib --crate-name drevokas -o "$scratch/libdrevokas.a" standin.rs || exit 2
+fi
 cp src/model.rs "$scratch/model.rs"
 wanted="$*"
 caught=0
 missed=0
 total=0
 
-# mutant NAME SED-SCRIPT
+# mutant NAME SED-SCRIPT [PROGRAM]: must be found by compare, or by PROGRAM, which is compare, tests or both.
 mutant() {
     if [ -n "$wanted" ]; then
         found=no
@@ -33,22 +41,37 @@ mutant() {
         missed=$((missed + 1))
         return
     fi
+    program=${3:-compare}
     if ! cargo build --release --offline --quiet --bin compare >"$scratch/build" 2>&1; then
         echo "MISSED  $1: does not build"
         grep -m 3 '^error' "$scratch/build"
         missed=$((missed + 1))
         return
     fi
-    target/release/compare >"$scratch/output" 2>&1
-    code=$?
-    where=$(sed -n 's/^difference in case \([0-9]*\).*/\1/p' "$scratch/output")
-    if [ $code -eq 1 ] && [ -n "$where" ]; then
-        echo "caught  $1 (case $where)"
-        caught=$((caught + 1))
-    else
-        echo "MISSED  $1: exit code $code"
-        missed=$((missed + 1))
+    found=''
+    if [ "$program" != tests ]; then
+        target/release/compare >"$scratch/output" 2>&1
+        code=$?
+        where=$(sed -n 's/^difference in case \([0-9]*\).*/\1/p' "$scratch/output")
+        if [ $code -ne 1 ] || [ -z "$where" ]; then
+            echo "MISSED  $1: exit code $code"
+            missed=$((missed + 1))
+            return
+        fi
+        found="case $where"
     fi
+    if [ "$program" != compare ]; then
+        cargo test --release --offline --test system_370 >"$scratch/output" 2>&1
+        where=$(grep -c '^test .* FAILED$' "$scratch/output")
+        if [ "$where" -eq 0 ]; then
+            echo "MISSED  $1: by the tests"
+            missed=$((missed + 1))
+            return
+        fi
+        found="${found:+$found, }tests $where"
+    fi
+    echo "caught  $1 ($found)"
+    caught=$((caught + 1))
 }
 
 # Before each unit.
@@ -121,7 +144,7 @@ mutant "ILC of a later halfword" 's/return exception\(code, ilc, address, &text\
 mutant "odd address with ILC 0" 's/return exception\(SPECIFICATION, 1, 0, &text\)/return exception(SPECIFICATION, 0, 0, \&text)/'
 mutant "address not wrapped when advanced" '/^fn set_instruction_address/,/^}/ s/let address = wrap\(record, address\)/let address = address \& 0x7FFF_FFFF/'
 mutant "translation exception advances" 's/if code != SEGMENT_TRANSLATION && code != PAGE_TRANSLATION/if true/'
-mutant "SVC old address not advanced" 's/Operation::SupervisorCall => return Ok/Operation::SupervisorCall => { unit.record = before_advance(record); return Ok/; s/SupervisorCall \{ number: text\[1\] \}\),/SupervisorCall { number: text[1] }); }/; s/^fn guest_clock/fn before_advance(record: \&[u8]) -> [u8; 200] { let mut copy = [0; 200]; copy.copy_from_slice(record); copy }\n&/'
+mutant "SVC old address not advanced" 's/Operation::SupervisorCall => return Ok/Operation::SupervisorCall => { unit.record = before_advance(record); return Ok/; s/SupervisorCall \{ number: text\[1\] \}\),/SupervisorCall { number: text[1] }); }/; s/^fn guest_clock/fn before_advance(record: \&[u8]) -> Vec<u8> { record.to_vec() }\n&/'
 mutant "SVC flag 3 ignored" 's/\(0\.\.3\)\.any/(0..2).any/'
 mutant "LCTL order" 's/set_word\(&mut unit\.record, CONTROL_REGISTERS \+ 4 \* register, word\(&bytes, 4 \* n\)\)/set_word(\&mut unit.record, CONTROL_REGISTERS + 4 * register, word(\&bytes, 4 * (range.len() - 1 - n)))/'
 mutant "LCTL control of the first register only" 's/control_range\(text\)\.iter\(\)\.any\(/control_range(text).iter().take(1).any(/'
@@ -129,7 +152,7 @@ mutant "LCTL alignment to 8" '/Operation::LoadControl => \{$/,/^        }/ s/add
 mutant "LPSW not aligned" '/Operation::LoadPsw => \{$/,/^        }/ s/address % 8 != 0/false/'
 mutant "overflow loses its result" 's/if code != FIXED_POINT_OVERFLOW \{/if true {/'
 mutant "overflow without condition code 3" 's/return \(result, 3, true\)/return (result, if (result as i32) < 0 { 1 } else { 2 }, true)/'
-mutant "overflow interrupts without PSW bit 20" 's/if overflow && psw_bit\(record, 20\)/if overflow/'
+mutant "overflow interrupts without PSW bit 20" 's/if overflow && overflow_is_enabled\(record\)/if overflow/'
 mutant "overflow kept at a host fault" '/fn program_exception/,/^    }/ s/Err\(failure\) => UnitEnd::Exit\(host_fault\(failure\)\),/Err(failure) => { if code == FIXED_POINT_OVERFLOW { self.record[GENERAL_REGISTERS..].copy_from_slice(\&unit.record[GENERAL_REGISTERS..]); } UnitEnd::Exit(host_fault(failure)) }/'
 mutant "STCK leaves the condition code" '/Operation::StoreClock =>/,/^        }/ s/set_condition_code\(&mut unit\.record, 0\);//'
 mutant "BCR branches on register 0" 's/if second != 0 && first as u8/if first as u8/'
@@ -152,6 +175,164 @@ mutant "prefix bit 0 counts" 's/word\(record, PREFIX\) & 0x7FFF_F000/word(record
 mutant "access kind before the reserved bytes" '/^pub fn translate/,/^}/ s/\.or_else\(\|\| refuse_reserved\(record\)\)/.or_else(|| if access > 2 { Some(8) } else { None }).or_else(|| refuse_reserved(record))/'
 mutant "preferred guest taken" 's/ \|\| record\[MODE\] & 0x02 != 0//'
 mutant "prefix block at the extent taken" 's/prefix\(record\) as u64 \+ 4096 <= extent_bytes/prefix(record) as u64 <= extent_bytes/'
+
+# Request 1/12: the record.
+mutant "mode 01 in 200 bytes taken" 's/system_370\(record\) && record\.len\(\) == 208/system_370(record)/' both
+mutant "mode 01 not taken" 's/ \|\| system_370\(record\) && record\.len\(\) == 208//' both
+mutant "mode 11 taken" 's/let mode_is_installed = /let mode_is_installed = record[MODE] \& 0x0C == 0x0C || /' both
+mutant "field 200 with 208 bytes taken" 's/\|\| halfword\(record, 0\) as usize != length/|| halfword(record, 0) as usize != length \&\& !(length == 208 \&\& halfword(record, 0) == 200)/' both
+mutant "field 208 with 200 bytes taken" 's/\|\| halfword\(record, 0\) as usize != length/|| halfword(record, 0) as usize != length \&\& !(length == 200 \&\& halfword(record, 0) == 208)/' both
+mutant "204 to 209 bytes taken" 's/length != 200 && length != 208 \|\|/length != 200 \&\& !(204..=209).contains(\&length) ||/; s/halfword\(record, 0\) as usize != length/!(length != 200 \&\& length != 208 || halfword(record, 0) as usize == length)/' both
+mutant "version 1 in 208 bytes taken" 's/if record\[VERSION\] != if/if !(length == 208 \&\& record[VERSION] == 1) \&\& record[VERSION] != if/' both
+mutant "version 2 in 200 bytes taken" 's/if record\[VERSION\] != if/if !(length == 200 \&\& record[VERSION] == 2) \&\& record[VERSION] != if/' both
+mutant "byte 201 not tested" 's/record\[201\.\.204\]/record[202..204]/' both
+mutant "byte 203 not tested" 's/record\[201\.\.204\]/record[201..203]/' both
+mutant "byte 200 tested" 's/record\[201\.\.204\]/record[200..204]/' both
+mutant "residue of 40,960,000 taken" 's/word\(record, RESIDUE\) >= RESIDUE_LIMIT/word(record, RESIDUE) > RESIDUE_LIMIT/' both
+mutant "residue of 40,959,999 refused" 's/word\(record, RESIDUE\) >= RESIDUE_LIMIT/word(record, RESIDUE) >= RESIDUE_LIMIT - 1/' both
+mutant "residue read as signed" 's/word\(record, RESIDUE\) >= RESIDUE_LIMIT/word(record, RESIDUE) as i32 >= RESIDUE_LIMIT as i32/' both
+mutant "new reserved bytes in mode 01 alone" 's/^    if record\.len\(\) == 208 \{/    if record.len() == 208 \&\& system_370(record) {/' both
+mutant "new reserved bytes with the timer active alone" 's/^    if record\.len\(\) == 208 \{/    if record.len() == 208 \&\& interval_timer_is_active(record) {/' both
+mutant "prefix bit 1 not tested" 's/word\(record, PREFIX\) & 0x7F00_0000/word(record, PREFIX) \& 0x3F00_0000/' both
+mutant "prefix bit 7 not tested" 's/word\(record, PREFIX\) & 0x7F00_0000/word(record, PREFIX) \& 0x7E00_0000/' both
+mutant "prefix bit 8 tested" 's/word\(record, PREFIX\) & 0x7F00_0000/word(record, PREFIX) \& 0x7F80_0000/' both
+mutant "prefix bit 0 tested" 's/word\(record, PREFIX\) & 0x7F00_0000/word(record, PREFIX) \& 0xFF00_0000/' both
+mutant "prefix bits 1-7 tested in 370-XA mode" 's/system_370\(record\) && word\(record, PREFIX\)/word(record, PREFIX)/' both
+mutant "DAT on fails at entry" '/^pub fn entry_is_good/,/^}/ s/^    let origin =/    if form(record) == Form::Ec \&\& psw_bit(record, 5) { return false; }\n&/' both
+
+# Request 1/12: the PSW.
+mutant "every PSW in mode 01 is EC" 's/\(true, false\) => Form::Bc/(true, false) => Form::Ec/' both
+mutant "every PSW in mode 01 is BC" 's/\(true, true\) => Form::Ec/(true, true) => Form::Bc/' both
+mutant "31-bit addresses by bit 32 in mode 01" 's/psw_bit\(record, 32\) && !system_370\(record\)/psw_bit(record, 32)/' both
+mutant "24-bit addresses in 370-XA mode" 's/psw_bit\(record, 32\) && !system_370\(record\)/psw_bit(record, 32) \&\& false/' both
+mutant "address field from bit 33 on" '/^fn address_field/,/^}/ s/0x00FF_FFFF/0x7FFF_FFFF/' both
+mutant "bits 33-39 cleared by an advance" 's/let left = word\(record, PSW \+ 4\) & !address_field\(record\)/let left = word(record, PSW + 4) \& 0x8000_0000/' both
+mutant "advance carries into bit 39" '/^fn set_instruction_address/,/^}/ s/let address = wrap\(record, address\)/let address = if system_370(record) { address \& 0x01FF_FFFF } else { wrap(record, address) }/' both
+mutant "branch puts bits 32-39" '/^fn set_instruction_address/,/^}/ s/left \| address\)/if system_370(record) { left | wide } else { left | address })/; /^fn set_instruction_address/,/^}/ s/^    let left/    let wide = address;\n&/' both
+mutant "condition code of a BC PSW in bits 18-19" '/^fn condition_byte/,/^}/ s/PSW \+ 4/PSW + 2/' both
+mutant "condition code of an EC PSW in bits 34-35" '/^fn condition_byte/,/^}/ s/form\(record\) == Form::Bc/system_370(record)/' both
+mutant "overflow by bit 20 of a BC PSW" '/^fn overflow_is_enabled/,/^}/ s/record\[condition_byte\(record\)\]/record[PSW + 2]/' both
+mutant "overflow by bit 37 of a BC PSW" '/^fn overflow_is_enabled/,/^}/ s/& 0x08/\& (if form(record) == Form::Bc { 0x04 } else { 0x08 })/' both
+mutant "step 2 sees BC PSWs" 's/form != Form::Bc && \(psw_bit\(record, 1\) \|\| psw_bit\(record, 16\)\)/(psw_bit(record, 1) || psw_bit(record, 16))/' both
+mutant "step 2 does not see EC bits 1 and 16" 's/form != Form::Bc && \(psw_bit\(record, 1\)/form == Form::Xa \&\& (psw_bit(record, 1)/' both
+mutant "step 2 does not see EC bit 16" 's/\(psw_bit\(record, 1\) \|\| psw_bit\(record, 16\)\)/(psw_bit(record, 1) || form == Form::Xa \&\& psw_bit(record, 16))/' both
+mutant "DAT on in mode 01 is no code 32" 's/ \|\| form == Form::Ec && psw_bit\(record, 5\)//' both
+mutant "bit 5 of a BC PSW is code 32" 's/ \|\| form == Form::Ec && psw_bit\(record, 5\)/ || form != Form::Xa \&\& psw_bit(record, 5)/' both
+mutant "bit 5 of a BC PSW is DAT" 's/if system_370\(self\.record\) \|\| !psw_bit\(self\.record, 5\)/if !psw_bit(self.record, 5)/' both
+mutant "DAT on before the stop request" 's/^        if record\[INTERVENTION\] & 0x04 != 0 \{/if form(record) == Form::Ec \&\& psw_bit(record, 5) { return self.intercept(32); }\n&/' both
+mutant "step 3 before step 2 in mode 01" 's/^        if form != Form::Bc && \(psw_bit/        if !(form == Form::Ec \&\& psw_is_malformed(record)) \&\& (form != Form::Bc \&\& (psw_bit/; s/\|\| form == Form::Ec && psw_bit\(record, 5\) \{/|| form == Form::Ec \&\& psw_bit(record, 5)) {/' both
+mutant "EC bit 0 not tested" 's/Form::Ec => return psw_bit\(record, 0\) \|\|/Form::Ec => return/' both
+mutant "EC bit 2 not tested" 's/(Form::Ec => return .*)ones\(2, 4\)/\1ones(3, 4)/' both
+mutant "EC bit 4 not tested" 's/(Form::Ec => return .*)ones\(2, 4\)/\1ones(2, 3)/' both
+mutant "EC bit 17 not tested" 's/(Form::Ec => return .*)psw_bit\(record, 17\) \|\| /\1/' both
+mutant "EC bit 18 tested" 's/(Form::Ec => return .*)psw_bit\(record, 17\)/\1ones(17, 18)/' both
+mutant "EC bit 24 not tested" 's/ones\(24, 39\)/ones(25, 39)/' both
+mutant "EC bit 39 not tested" 's/ones\(24, 39\)/ones(24, 38)/' both
+mutant "EC bit 32 taken" 's/ones\(24, 39\)/(ones(24, 31) || ones(33, 39))/' both
+mutant "EC bits 32-39 taken" 's/ones\(24, 39\)/ones(24, 31)/' both
+mutant "EC PSW tested as in 370-XA" 's/Form::Ec => return .*,/Form::Ec => {}/' both
+mutant "BC PSW tested as in 370-XA" 's/Form::Bc => return false,/Form::Bc => {}/' both
+mutant "BC PSW tested as EC" 's/Form::Bc => return false,/Form::Bc => return ones(24, 31),/' both
+mutant "I/O request by bit 6 of a BC PSW alone" 's/let first_channel = if form == Form::Bc \{ 0 \}/let first_channel = if form == Form::Bc { 6 }/' both
+mutant "I/O request not by bit 0" 's/let first_channel = if form == Form::Bc \{ 0 \}/let first_channel = if form == Form::Bc { 1 }/' both
+mutant "I/O request not by bit 6 of a BC PSW" 's/\(first_channel\.\.=6\)\.any/(first_channel..=if form == Form::Bc { 5 } else { 6 }).any/' both
+mutant "I/O request by bit 7 of a BC PSW" 's/\(first_channel\.\.=6\)\.any/(first_channel..=if form == Form::Bc { 7 } else { 6 }).any/' both
+mutant "I/O request by bit 5 of a 370-XA PSW" 's/let first_channel = if form == Form::Bc \{ 0 \} else \{ 6 \}/let first_channel = if form == Form::Bc { 0 } else { 5 }/'
+
+# Request 1/12: interruptions.
+mutant "fields stored with a BC PSW" 's/^        fields = &\[\];//' both
+mutant "no code in the old BC PSW" 's/^        old_psw\[2\.\.4\]\.copy_from_slice\(&fields\[2\.\.4\]\);//' both
+mutant "no ILC in the old BC PSW" 's/^        old_psw\[4\] = .*//' both
+mutant "ILC added to the old bits 32-33" 's/old_psw\[4\] & 0x3F/old_psw[4]/' both
+mutant "ILC in bits 33-34" 's/fields\[1\] >> 1 << 6/fields[1] >> 1 << 5/' both
+mutant "condition code lost in the old BC PSW" 's/old_psw\[4\] & 0x3F/old_psw[4] \& 0x0F/' both
+mutant "code over the high byte of the old BC PSW's code" 's/old_psw\[2\.\.4\]\.copy_from_slice\(&fields\[2\.\.4\]\)/old_psw[3] = fields[3]/' both
+mutant "EC PSW stored as BC" '/^fn interrupt/,/^}/ s/form\(view\.record\) == Form::Bc/form(view.record) != Form::Xa/' both
+mutant "form by the new PSW" '/^fn interrupt/,/^}/ s/form\(view\.record\) == Form::Bc/system_370(view.record) \&\& view.fetch(\&view.area(new, 8, Access::Fetch)?)[1] \& 0x08 == 0/' both
+mutant "code 8 puts the code into a BC PSW" 's/^            return self\.intercept\(8\);/if form(self.record) == Form::Bc { self.record[PSW + 3] = code; }\n&/' both
+mutant "code 8 puts the ILC into a BC PSW" 's/^            return self\.intercept\(8\);/if form(self.record) == Form::Bc { self.record[PSW + 4] = self.record[PSW + 4] \& 0x3F | ilc << 6; }\n&/' both
+mutant "code 44 puts the ILC into a BC PSW" 's/^            return self\.intercept\(44\);/if form(self.record) == Form::Bc { self.record[PSW + 4] = self.record[PSW + 4] \& 0x3F | ilc << 6; }\n&/' both
+mutant "code 4 puts the ILC into a BC PSW" 's/^                self\.intercept\(4\)/if form == Form::Bc { self.record[PSW + 4] = self.record[PSW + 4] \& 0x3F | ilc << 6; }\n&/' both
+mutant "code 20 puts the code into a BC PSW" '/fn intercept_external/,/^    }/ s/^        self\.intercept\(20\)/if form(self.record) == Form::Bc { self.record[PSW + 2..PSW + 4].copy_from_slice(\&interruption.to_be_bytes()); }\n&/' both
+mutant "LPSW leaves bits 16-33 of a BC PSW zero" '/Operation::LoadPsw => \{$/,/^        }/ s/^            set_doubleword\(.*/&\nif form(\&unit.record) == Form::Bc { unit.record[PSW + 2..PSW + 4].fill(0); unit.record[PSW + 4] \&= 0x3F; }/' both
+mutant "a new BC PSW loses bits 16-33" '/^fn interrupt/,/^}/ s/^    set_doubleword\(.*/&\nif form(\&unit.record) == Form::Bc { unit.record[PSW + 2..PSW + 4].fill(0); unit.record[PSW + 4] \&= 0x3F; }/' both
+
+# Request 1/12: instructions.
+mutant "9C not listed in mode 01" 's/0x9C\.\.=0x9F if/0x9D..=0x9F if/' both
+mutant "9F not listed in mode 01" 's/0x9C\.\.=0x9F if/0x9C..=0x9E if/' both
+mutant "A0 listed in mode 01" 's/0x9C\.\.=0x9F if/0x9C..=0xA0 if/' both
+mutant "9C-9F by the second byte too" 's/0x9C\.\.=0x9F if system_370/0x9C..=0x9F if system_370 \&\& text[1] < 2/' both
+mutant "9C-9F not privileged" 's/(0x9C\.\.=0x9F if system_370 => \(Operation::Mandatory), true/\1, false/' both
+mutant "9C-9F in 370-XA mode" 's/0x9C\.\.=0x9F if system_370/0x9C..=0x9F/' both
+mutant "B230-B23C code 4 in mode 01" 's/0x30\.\.=0x3C if !system_370/0x30..=0x3C/' both
+mutant "B23C code 4 in mode 01" 's/0x30\.\.=0x3C if !system_370/0x30..=0x3C if !system_370 || text[1] == 0x3C/' both
+mutant "B230-B23C privileged in mode 01" 's/^        return exception\(OPERATION, ilc, 0, &text\);/if system_370(record) \&\& text[0] == 0xB2 \&\& (0x30..=0x3C).contains(\&text[1]) \&\& psw_bit(record, 15) { return exception(PRIVILEGED_OPERATION, ilc, 0, \&text); }\n&/' both
+mutant "DIAGNOSE not listed in mode 01" 's/0x83 => \(Operation::Mandatory/0x83 if !system_370 => (Operation::Mandatory/' both
+mutant "SIGP not listed in mode 01" 's/0xAE => \(Operation::Mandatory/0xAE if !system_370 => (Operation::Mandatory/' both
+mutant "no low-address protection in mode 01" 's/if access == Access::Store && logical <= 511/if access == Access::Store \&\& !system_370(self.record) \&\& logical <= 511/' both
+mutant "no key protection in mode 01" 's/if access_key != 0 && access_key != storage_key/if access_key != 0 \&\& !system_370(self.record) \&\& access_key != storage_key/' both
+
+# Request 1/12: the interval timer.
+mutant "active with bit 7 one" 's/record\[MODE\] & 0x01 == 0/record[MODE] \& 0x01 != 0/' both
+mutant "active whatever bit 7 is" 's/system_370\(record\) && record\[MODE\] & 0x01 == 0/system_370(record)/' both
+mutant "active in 370-XA mode" 's/system_370\(record\) && record\[MODE\] & 0x01 == 0/record.len() == 208 \&\& record[MODE] \& 0x01 == 0/' both
+mutant "residue by the time itself" 's/RESIDUE\) \+ 3 \* self\.time/RESIDUE) + self.time/' both
+mutant "fall above 40,960,000 alone" 's/if residue < RESIDUE_LIMIT/if residue <= RESIDUE_LIMIT/' both
+mutant "residue cleared by a fall" 's/RESIDUE, residue - RESIDUE_LIMIT/RESIDUE, residue * 0/' both
+mutant "fall by 255" 's/before\.wrapping_sub\(256\)/before.wrapping_sub(255)/' both
+mutant "fall stops at zero" 's/before\.wrapping_sub\(256\)/before.saturating_sub(256)/' both
+mutant "fall stops at the least number" 's/before\.wrapping_sub\(256\)/(before as i32).saturating_sub(256) as u32/' both
+mutant "fall of the upper three bytes" 's/before\.wrapping_sub\(256\)/before.wrapping_sub(256) \& 0xFFFF_FF00/' both
+mutant "T while negative" 's/before as i32 >= 0 && \(after as i32\) < 0/(after as i32) < 0/' both
+mutant "T from positive alone" 's/before as i32 >= 0 && /before as i32 > 0 \&\& /' both
+mutant "T at the wrap" 's/before as i32 >= 0 && \(after as i32\) < 0/(before as i32 >= 0) != (after as i32 >= 0)/' both
+mutant "T taken back by a fall" 's/^        if before as i32 >= 0 && /self.record[TIMER_REQUEST] \&= 0x7F;\n&/' both
+mutant "T sets the whole byte" 's/self\.record\[TIMER_REQUEST\] \|= 0x80/self.record[TIMER_REQUEST] = 0x80/' both
+mutant "T is bit 1" 's/TIMER_REQUEST\] \|= 0x80/TIMER_REQUEST] |= 0x40/' both
+mutant "T pending without PSW bit 7" 's/if external && bit\(control_register_0, 24\) && pending/if bit(control_register_0, 24) \&\& pending/' both
+mutant "T pending without CR0 bit 24" 's/bit\(control_register_0, 24\) && pending/pending/' both
+mutant "T pending by CR0 bit 25" 's/bit\(control_register_0, 24\) && pending/bit(control_register_0, 25) \&\& pending/' both
+mutant "T pending with the timer inactive" 's/let pending = interval_timer_is_active\(record\) &&/let pending = system_370(record) \&\&/' both
+mutant "T pending in 370-XA mode" 's/let pending = interval_timer_is_active\(record\) &&/let pending = record.len() == 208 \&\& (!system_370(record) || interval_timer_is_active(record)) \&\&/' both
+mutant "T pending by any bit of its byte" 's/record\[TIMER_REQUEST\] & 0x80 != 0/record[TIMER_REQUEST] != 0/' both
+mutant "T not cleared" 's/^            self\.record\[TIMER_REQUEST\] &= 0x7F;//' both
+mutant "T clears its whole byte" 's/self\.record\[TIMER_REQUEST\] &= 0x7F/self.record[TIMER_REQUEST] = 0/' both
+mutant "T cleared by every code 20" '/fn intercept_external/,/^    }/ s/^        self\.intercept\(20\)/if self.record.len() == 208 { self.record[TIMER_REQUEST] \&= 0x7F; }\n&/' both
+mutant "T with interruption code 1080 hex" 's/intercept_external\(0x0080\)/intercept_external(0x1080)/' both
+mutant "T before the CPU timer" 's/if external && bit\(control_register_0, 21\) && \(doubleword\(record, TIMER\) as i64\) < 0 \{/if external \&\& bit(control_register_0, 21) \&\& (doubleword(record, TIMER) as i64) < 0 \&\& !(bit(control_register_0, 24) \&\& interval_timer_is_active(record) \&\& record[TIMER_REQUEST] \& 0x80 != 0) {/' both
+mutant "T after the external request" 's/bit\(control_register_0, 24\) && pending \{/bit(control_register_0, 24) \&\& pending \&\& record[INTERVENTION] \& 0x01 == 0 {/' both
+mutant "T after the I/O request" 's/bit\(control_register_0, 24\) && pending \{/bit(control_register_0, 24) \&\& pending \&\& !(record[INTERVENTION] \& 0x02 != 0 \&\& psw_bit(record, 6)) {/' both
+mutant "T after the wait state" 's/bit\(control_register_0, 24\) && pending \{/bit(control_register_0, 24) \&\& pending \&\& !psw_bit(record, 14) {/' both
+mutant "exits add to the residue" '/fn intercept\(/a if interval_timer_is_active(self.record) { let residue = (word(self.record, RESIDUE) + 3 * self.time) % RESIDUE_LIMIT; set_word(self.record, RESIDUE, residue); }' both
+mutant "interruptions add nothing" 's/let interval_timer = match self\.add_to_residue\(&mut unit\) \{/let interval_timer = match if interruption.is_some() { Ok(None) } else { self.add_to_residue(\&mut unit) } {/' both
+mutant "a malformed PSW adds nothing" 's/let interval_timer = match self\.add_to_residue\(&mut unit\) \{/let interval_timer = match if psw_is_malformed(self.record) { Ok(None) } else { self.add_to_residue(\&mut unit) } {/' both
+mutant "word at real 84" 's/view\.area\(80, 4, Access::Store\)/view.area(84, 4, Access::Store)/' both
+mutant "word at absolute 80" 's/view\.area\(80, 4, Access::Store\)/view.area(view.prefixed(80), 4, Access::Store)/' both
+mutant "word looked for in each unit" 's/^        let residue = word\(self\.record, RESIDUE\) \+ 3 \* self\.time;/View { record: self.record, storage: self.storage, keys: self.keys, designation: self.designation }.area(80, 4, Access::Store)?;\n&/' both
+mutant "word's host page protection skipped" 's/view\.area\(80, 4, Access::Store\)/view.area(80, 4, Access::Fetch)/' both
+mutant "word under low-address protection" 's/^        view\.area\(80, 4, Access::Store\)/if bit(control_register(self.record, 0), 3) { return Ok(None); }\n&/' both
+mutant "word under its key" 's/^        view\.area\(80, 4, Access::Store\)/if let Ok(places) = view.area(80, 1, Access::Fetch) { let key = self.keys[places[0] as usize \/ FRAME] >> 4; let own = self.record[PSW + 1] >> 4; if own != 0 \&\& own != key { return Ok(None); } }\n&/' both
+mutant "word's frame marked as referenced" 's/^        self\.events\.falls \+= 1;/&\nself.keys[places[0] as usize \/ FRAME] |= 0x04;/' both
+mutant "word's frame marked as changed" 's/^        self\.events\.falls \+= 1;/&\nself.keys[places[0] as usize \/ FRAME] |= 0x02;/' both
+mutant "word before the unit's stores" 's/^            self\.lower_word\(&places\);//; s/^        for \(place, byte\) in unit\.stores \{/if let Some(places) = \&interval_timer { self.lower_word(places); }\n&/' both
+mutant "word in the tables after the unit's stores" '/fn add_to_residue/,/^    }/ s/storage: self\.storage,/storage: \&after,/; s/^        set_word\(&mut unit\.record, RESIDUE, residue - RESIDUE_LIMIT\);/&\nlet mut after = self.storage.to_vec(); for \&(place, byte) in \&unit.stores { after[place as usize] = byte; }/' both
+mutant "word before the interruption's areas" 's/match interrupt\(&view, &mut unit, 32, 96, 136, &fields\) \{/match self.add_to_residue(\&mut unit).and_then(|_| interrupt(\&view, \&mut unit, 32, 96, 136, \&fields)) {/' both
+mutant "residue kept at the word's fault" 's/^                self\.events\.fault_at_word = true;/&\nlet residue = word(\&unit.record, RESIDUE); set_word(self.record, RESIDUE, residue);/' both
+mutant "unit kept at the word's fault" 's/^                self\.events\.fault_at_word = true;/&\nfor \&(place, byte) in \&unit.stores { self.storage[place as usize] = byte; }/' both
+mutant "registers kept at the word's fault" 's/^                self\.events\.fault_at_word = true;/&\nself.record[PSW..PSW + 8].copy_from_slice(\&unit.record[PSW..PSW + 8]);/' both
+mutant "marks kept at the word's fault" 's/^                self\.events\.fault_at_word = true;/&\nfor \&(frame, _) in \&unit.marks { self.keys[frame] |= 0x04; }/' both
+
+# Request 1/12: translate and the case file.
+mutant "translate goes on with DAT on" '/^pub fn translate/,/^}/ s/if form\(record\) == Form::Ec && psw_bit\(record, 5\)/if false/' both
+mutant "translate does not read bit 12" '/^pub fn translate/,/^}/ s/if form\(record\) == Form::Ec && psw_bit\(record, 5\)/if system_370(record) \&\& psw_bit(record, 5)/' both
+mutant "translate's code 32 before refusal 8" '/^pub fn translate/,/^}/ s/^        \.or_else\(\|\| if access > 2 .*/.or_else(|| if access > 2 \&\& !(form(record) == Form::Ec \&\& psw_bit(record, 5)) { Some(8) } else { None });/' both
+mutant "translate stops at a malformed PSW" '/^pub fn translate/,/^}/ s/if form\(record\) == Form::Ec && psw_bit\(record, 5\)/if form(record) == Form::Ec \&\& (psw_bit(record, 5) || psw_is_malformed(record))/' both
+mutant "translate stops at PER" '/^pub fn translate/,/^}/ s/if form\(record\) == Form::Ec && psw_bit\(record, 5\)/if form(record) == Form::Ec \&\& (psw_bit(record, 5) || psw_bit(record, 1))/' both
+mutant "case file with 200 bytes alone" 's/let size = if halfword\(file, 23\) == 208 \{ 208 \}/let size = if halfword(file, 23) == 208 { 200 }/' tests
+mutant "case file's size by the version" 's/let size = if halfword\(file, 23\) == 208/let size = if file[25] == 2/' tests
+mutant "case file's size by the low byte of the field" 's/let size = if halfword\(file, 23\) == 208/let size = if file[24] == 208/' tests
+mutant "frame count of 9 taken" 's/\(1\.\.=8\)\.contains\(&frames\)/(1..=9).contains(\&frames)/' tests
+mutant "frame count of 0 taken" 's/\(1\.\.=8\)\.contains\(&frames\)/(0..=8).contains(\&frames)/' tests
 
 echo "mutants: $total, caught $caught, missed $missed"
 [ $missed -eq 0 ] && [ $total -gt 0 ]

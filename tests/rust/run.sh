@@ -1,5 +1,6 @@
 #!/bin/sh
-# Builds the tests against the static library and runs them: worked examples, library against model, isolation, resumption.
+# Builds the tests against the static library and runs them: worked examples, request 1/12, library against model, isolation,
+# resumption, case files.
 set -eu
 . "$(dirname "$0")/../../tools/plain.sh"
 cd "$(dirname "$0")"
@@ -7,6 +8,6 @@ CARGO_TARGET_DIR=../../target/rust
 export CARGO_TARGET_DIR
 cargo test --release --offline --quiet
 cargo build --release --offline --quiet
-for program in compare isolation resume; do
+for program in compare isolation resume case_files; do
     "$CARGO_TARGET_DIR/release/$program"
 done

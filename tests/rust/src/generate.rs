@@ -1,5 +1,5 @@
 //! Random cases with a structure: host tables, guest tables, a few blocks of instructions and their operands, laid so
-//! that most runs complete several units and many meet a boundary of document 01 on the way.
+//! that most runs complete several units and many meet a boundary of document 01, or of request 1/12, on the way.
 
 use crate::model::{self, Answer, FRAME};
 
@@ -74,9 +74,32 @@ pub struct Case {
     pub addresses: Vec<u32>,
 }
 
+/// The machine of a case.
+#[derive(Clone, Copy, PartialEq, Eq, PartialOrd, Ord, Debug)]
+pub enum Machine {
+    /// 370-XA in the record of 200 bytes.
+    Xa,
+    /// System/370 in the record of 208 bytes.
+    System370,
+    /// 370-XA in the record of 208 bytes.
+    XaLarger,
+}
+
+impl Machine {
+    /// The numbers of one case of this machine. Fewer cases are made of the third.
+    pub fn rng(self, seed: u64, number: u64) -> Option<Rng> {
+        match self {
+            Machine::Xa => Some(Rng::new(seed, number)),
+            Machine::System370 => Some(Rng::new(seed ^ 0x0370_0000_0000, number)),
+            Machine::XaLarger => (number % 8 == 0).then(|| Rng::new(seed ^ 0x0208_0000_0000, number)),
+        }
+    }
+}
+
 /// What cases the caller wants.
 #[derive(Clone, Copy)]
 pub struct Wishes {
+    pub machine: Machine,
     /// Some cases are to be refused or to fail at entry.
     pub damage: bool,
     /// Some extents reach up to 2^31.
@@ -84,18 +107,24 @@ pub struct Wishes {
 }
 
 pub fn case(rng: &mut Rng, wishes: Wishes) -> Case {
-    let mut builder = Builder::new(rng);
+    let mut builder = Builder::new(rng, wishes.machine);
     builder.choose_extent(wishes.large_extents);
     builder.lay_host_tables();
     builder.choose_prefix();
-    builder.lay_guest_tables();
+    if builder.system_370() {
+        builder.choose_control_registers();
+    } else {
+        builder.lay_guest_tables();
+    }
     builder.choose_state();
     builder.choose_controls();
     builder.choose_time();
+    builder.choose_interval_timer();
     builder.choose_operands();
     builder.lay_blocks();
     builder.lay_new_psws();
     builder.set_keys();
+    builder.disturb_prefix_page();
     if wishes.damage && builder.rng.percent(7) {
         builder.damage();
     }
@@ -112,6 +141,7 @@ struct Block {
 
 struct Builder<'a> {
     rng: &'a mut Rng,
+    machine: Machine,
     case: Case,
     frames: u32,
     /// Origin and extent in 64 KiB blocks.
@@ -142,13 +172,16 @@ struct Builder<'a> {
     bases: Vec<(usize, u32)>,
     /// Registers that point at blocks.
     targets: Vec<(usize, usize)>,
+    /// Registers that point at a page in the frame of the prefix page, and at the host page entry of the prefix page.
+    twin: Option<usize>,
+    prefix_entry: Option<usize>,
 }
 
 const CR: usize = 72;
 const GR: usize = 136;
 
 impl<'a> Builder<'a> {
-    fn new(rng: &'a mut Rng) -> Builder<'a> {
+    fn new(rng: &'a mut Rng, machine: Machine) -> Builder<'a> {
         let frames = match rng.below(100) {
             0..=2 => rng.range(1, 2),
             3..=9 => rng.range(3, 5),
@@ -162,12 +195,18 @@ impl<'a> Builder<'a> {
         let mut record = vec![0; 200];
         record[1] = 200;
         record[2] = 1;
-        let dat = rng.percent(55);
-        let wide = rng.percent(60);
+        if machine != Machine::Xa {
+            record.resize(208, 0);
+            record[1] = 208;
+            record[2] = 2;
+        }
+        let dat = rng.percent(55) && machine != Machine::System370;
+        let wide = rng.percent(60) && machine != Machine::System370;
         let host_clean = rng.percent(70);
         let guest_clean = rng.percent(70);
         let careless = rng.percent(6);
         Builder {
+            machine,
             case: Case {
                 record,
                 storage,
@@ -199,8 +238,14 @@ impl<'a> Builder<'a> {
             careless,
             bases: Vec::new(),
             targets: Vec::new(),
+            twin: None,
+            prefix_entry: None,
             rng,
         }
+    }
+
+    fn system_370(&self) -> bool {
+        self.machine == Machine::System370
     }
 
     fn choose_extent(&mut self, large: bool) {
@@ -227,6 +272,10 @@ impl<'a> Builder<'a> {
         self.case.record[14..16].copy_from_slice(&(self.extent as u16).to_be_bytes());
         // Mode: bits 4-6 are 100, the others are ignored.
         self.case.record[4] = self.rng.byte() & 0xF1 | 0x08;
+        if self.system_370() {
+            // Bits 4-6 are 010, and bit 7 one stops the interval timer.
+            self.case.record[4] = self.rng.byte() & 0xF0 | 0x04 | self.rng.percent(12) as u8;
+        }
     }
 
     fn extent_pages(&self) -> u32 {
@@ -374,20 +423,23 @@ impl<'a> Builder<'a> {
             85..=89 => last,
             _ => self.rng.range(0, last.min(300)),
         };
+        // In System/370 mode prefix bits 1-7 are zero.
+        let page = if self.system_370() { page & 0xFFF } else { page };
         self.prefix = page << 12;
         // Bits 0 and 20-31 are ignored.
         let ignored = if self.rng.percent(30) { self.rng.word() & 0x8000_0FFF } else { 0 };
         model::set_word(&mut self.case.record, 8, self.prefix | ignored);
     }
 
-    /// The record with a PSW of key 0 and these modes.
-    fn record_for(&self, dat: bool, wide: bool) -> [u8; 200] {
-        let mut record = [0; 200];
-        record.copy_from_slice(&self.case.record);
+    /// The record with a PSW of key 0 and these modes; in System/370 mode there are none.
+    fn record_for(&self, dat: bool, wide: bool) -> Vec<u8> {
+        let mut record = self.case.record.clone();
         record[16..24].fill(0);
-        record[16] = if dat { 0x04 } else { 0 };
         record[17] = 0x08;
-        record[20] = if wide { 0x80 } else { 0 };
+        if !self.system_370() {
+            record[16] = if dat { 0x04 } else { 0 };
+            record[20] = if wide { 0x80 } else { 0 };
+        }
         record
     }
 
@@ -492,6 +544,17 @@ impl<'a> Builder<'a> {
         model::set_word(&mut self.case.record, CR, control);
     }
 
+    /// In System/370 mode there are no guest tables; operands may lie where they would.
+    fn choose_control_registers(&mut self) {
+        self.guest_segment_table = self.rng.below(self.extent_pages().min(16)) << 12;
+        self.guest_page_tables.push(self.guest_segment_table + 1024);
+        self.segments.push(0);
+        let control = self.control_register_0();
+        model::set_word(&mut self.case.record, CR, control);
+        let control = self.rng.word();
+        model::set_word(&mut self.case.record, CR + 4, control);
+    }
+
     fn guest_segment_entry(&mut self, page_table: u32) -> u32 {
         let mut entry = page_table | 15 | self.rng.word() & 0x10;
         if !self.guest_clean {
@@ -538,6 +601,10 @@ impl<'a> Builder<'a> {
         if self.rng.percent(35) {
             control |= 0x400;
         }
+        if self.system_370() && self.rng.percent(50) {
+            // The interval timer's mask oftener than not, and the others seldom.
+            control = control & 0xEFFF_F3FF | 0x80;
+        }
         control
     }
 
@@ -551,7 +618,10 @@ impl<'a> Builder<'a> {
             model::set_word(&mut self.case.record, CR + 4 * register, value);
         }
         for register in 0..16 {
-            let value = self.register_value();
+            let mut value = self.register_value();
+            if self.system_370() && self.rng.percent(30) {
+                value = self.interval_timer_word();
+            }
             model::set_word(&mut self.case.record, GR + 4 * register, value);
         }
     }
@@ -654,6 +724,9 @@ impl<'a> Builder<'a> {
 
     /// A PSW that goes on at one of the blocks.
     fn psw(&mut self) -> [u8; 8] {
+        if self.system_370() {
+            return self.psw_370();
+        }
         let block = self.rng.below(self.blocks.len() as u32) as usize;
         let start = match self.rng.below(4) {
             0 => self.rng.pick(&self.blocks[block].starts.clone()),
@@ -684,6 +757,57 @@ impl<'a> Builder<'a> {
             8 => psw[3] |= 1 << self.rng.below(8),
             9 => psw[4] = psw[4] & 0x80 | 1 << self.rng.below(7),
             10 => psw[7] |= 1,
+            _ => {}
+        }
+        psw
+    }
+
+    /// The same in System/370 mode: BC or EC.
+    fn psw_370(&mut self) -> [u8; 8] {
+        let block = self.rng.below(self.blocks.len() as u32) as usize;
+        let start = match self.rng.below(4) {
+            0 => self.rng.pick(&self.blocks[block].starts.clone()),
+            _ => 0,
+        };
+        let address = self.blocks[block].address.wrapping_add(start) & 0x00FF_FFFF;
+        let key = if self.rng.percent(88) { self.key } else { self.rng.below(16) as u8 };
+        let mut psw = [0; 8];
+        psw[1] = key << 4 | self.rng.byte() & 0x04;
+        psw[1] |= if self.rng.percent(20) { 0x01 } else { 0 };
+        if self.rng.percent(50) {
+            psw[0] = self.rng.pick(&[0, 0, 0x02]);
+            psw[1] |= 0x08;
+            psw[2] = self.rng.byte() & 0x3F;
+        } else {
+            // Masks of no channel, of one, or of any; interruption code and ILC as the last interruption left them.
+            psw[0] = match self.rng.below(4) {
+                0 => 0,
+                1 | 2 => 0x80 >> self.rng.below(7),
+                _ => self.rng.byte() & 0xFE,
+            };
+            self.rng.fill(&mut psw[2..5]);
+            if self.rng.percent(20) {
+                psw[2..4].fill(0);
+                psw[4] &= 0x3F;
+            }
+        }
+        psw[0] |= if self.rng.percent(50) { 0x01 } else { 0 };
+        psw[5..8].copy_from_slice(&address.to_be_bytes()[1..]);
+        match self.rng.below(250) {
+            0..=3 => psw[1] |= 0x02,
+            4 => psw[0] |= 0x40,
+            5 => psw[2] |= 0x80,
+            6 => psw[0] |= 0x04,
+            7 => psw[0] |= self.rng.pick(&[0x80, 0x20, 0x10, 0x08]),
+            8 => psw[2] |= 0x40,
+            9 => psw[3] |= 1 << self.rng.below(8),
+            10 => psw[4] |= 1 << self.rng.below(8),
+            11 => psw[7] |= 1,
+            12 => {
+                psw[0] |= self.rng.pick(&[0x80, 0x20, 0x08]);
+                psw[2] |= 0x80;
+            }
+            13 => psw[1] ^= 0x08,
             _ => {}
         }
         psw
@@ -724,6 +848,9 @@ impl<'a> Builder<'a> {
             let entry = self.host_page_entry_at(page).unwrap_or(0);
             self.bases[0].1 = page << 12 | (entry & 0xFFF).wrapping_add(4 * self.rng.below(4)) & 0xFFF;
         }
+        if self.system_370() {
+            self.point_at_prefix_page();
+        }
         for at in 0..3 {
             let register = registers.remove(self.rng.below(registers.len() as u32) as usize);
             self.targets.push((register, at));
@@ -733,6 +860,35 @@ impl<'a> Builder<'a> {
             let high = self.high_bits();
             model::set_word(&mut self.case.record, GR + 4 * register, value & 0x7FFF_FFFF | high);
             self.case.addresses.push(value);
+        }
+    }
+
+    /// Lets a second page share the frame of the prefix page, and a third hold its host page entry.
+    fn point_at_prefix_page(&mut self) {
+        let pages = self.extent_pages().min(4096);
+        let Some(entry_at) = self.host_page_entry_at(self.prefix >> 12) else { return };
+        let entry = model::word(&self.case.storage, entry_at as usize);
+        // Neither real block 0 nor the prefix block: there real and absolute are the same.
+        let page = self.rng.range(1, pages.min(16) - 1);
+        if self.rng.percent(35) && page != self.prefix >> 12 {
+            self.set_host_page(page, entry >> 12 & 0x7_FFFF);
+            self.bases[2].1 = page << 12;
+            self.twin = Some(self.bases[2].0);
+        }
+        let page = self.rng.range(1, pages.min(16) - 1);
+        if self.rng.percent(20) && page != self.prefix >> 12 {
+            self.set_host_page(page, entry_at >> 12);
+            self.bases[0].1 = page << 12 | entry_at & 0xFFF;
+            self.prefix_entry = Some(self.bases[0].0);
+            // Something to store there.
+            for register in 0..16 {
+                if self.rng.percent(40) {
+                    let flags = self.rng.pick(&[0, 0, 0x100, 0x200, 0x200, 0x400, 0x400, 0x800]);
+                    let frame = self.rng.pick(&self.guest_frames.clone());
+                    let value = self.rng.pick(&[entry, frame << 12]) & 0x7FFF_F0FF | flags;
+                    model::set_word(&mut self.case.record, GR + 4 * register, value);
+                }
+            }
         }
     }
 
@@ -800,8 +956,12 @@ impl<'a> Builder<'a> {
             self.case.addresses.push(address);
         }
         let mut psw = self.psw();
-        model::set_word(&mut psw, 4, self.blocks[0].address | if self.wide { 0x8000_0000 } else { 0 });
-        psw[0] = psw[0] & !0x04 | if self.dat { 0x04 } else { 0 };
+        if self.system_370() {
+            psw[5..8].copy_from_slice(&self.blocks[0].address.to_be_bytes()[1..]);
+        } else {
+            model::set_word(&mut psw, 4, self.blocks[0].address | if self.wide { 0x8000_0000 } else { 0 });
+            psw[0] = psw[0] & !0x04 | if self.dat { 0x04 } else { 0 };
+        }
         self.case.record[16..24].copy_from_slice(&psw);
     }
 
@@ -871,7 +1031,40 @@ impl<'a> Builder<'a> {
         self.poke(dat, wide, address, bytes, false);
     }
 
+    /// An operand at or about the word of the interval timer, by real 80 or by the page that shares its frame; or a
+    /// store into the host page entry of the prefix page.
+    fn at_interval_timer(&mut self) -> Vec<u8> {
+        let first = self.free_register() as u8;
+        if let (Some(base), true) = (self.prefix_entry, self.rng.percent(40)) {
+            return vec![0x50, (self.rng.below(16) as u8) << 4, (base as u8) << 4, 0];
+        }
+        let base = match self.twin {
+            Some(register) if self.rng.percent(60) => register as u8,
+            _ => 0,
+        };
+        let displacement = self.rng.pick(&[72, 76, 77, 78, 79, 80, 80, 80, 80, 80, 81, 83, 84]);
+        let (operation, second) = match self.rng.below(10) {
+            0..=4 => (0x50, (self.rng.below(16) as u8) << 4),
+            5..=7 => (0x58, first << 4),
+            8 => (0xB2, self.rng.pick(&[0x05, 0x09])),
+            _ => (0xB6, self.rng.below(16) as u8 * 0x11),
+        };
+        vec![operation, second, base << 4, displacement]
+    }
+
     fn instruction(&mut self) -> Vec<u8> {
+        if self.system_370() {
+            match self.rng.below(100) {
+                0..=7 => return self.at_interval_timer(),
+                8 => {
+                    // Code 4 in this mode, operation exceptions, and their neighbours.
+                    let operation = self.rng.pick(&[0x9B, 0x9C, 0x9D, 0x9E, 0x9F, 0xA0, 0xB2, 0xB2, 0xB2]);
+                    let second = if operation == 0xB2 { self.rng.range(0x2F, 0x3D) as u8 } else { self.rng.byte() };
+                    return self.rs(operation, second, 1).0;
+                }
+                _ => {}
+            }
+        }
         let first = self.free_register();
         let second = self.rng.below(16) as usize;
         let registers = (first as u8) << 4 | second as u8;
@@ -1011,6 +1204,9 @@ impl<'a> Builder<'a> {
         if self.rng.percent(1) {
             requests |= 0x04;
         }
+        if self.system_370() && self.rng.percent(12) {
+            requests |= self.rng.pick(&[0x02, 0x02, 0x03]);
+        }
         let mut controls = self.rng.byte() & 0x1F;
         for (bit, chance) in [(0x80, 15), (0x40, 22), (0x20, 12)] {
             if self.rng.percent(chance) {
@@ -1076,6 +1272,8 @@ impl<'a> Builder<'a> {
             65..=72 => 1_048_576,
             _ => self.rng.below(1_048_577),
         };
+        // With the greatest time the word of the interval timer falls every 13 units or 14.
+        let time = if self.system_370() && self.rng.percent(35) { 1_048_576 } else { time };
         self.case.time = time;
         let units = self.case.budget.min(20);
         let timer = self.timer_value(time, units);
@@ -1105,6 +1303,73 @@ impl<'a> Builder<'a> {
         model::set_doubleword(&mut self.case.record, 40, epoch);
     }
 
+    /// Request byte and residue, in every mode; in System/370 mode also the word at real 80.
+    fn choose_interval_timer(&mut self) {
+        if self.machine == Machine::Xa {
+            return;
+        }
+        self.case.record[200] = self.rng.byte() & 0x7F | if self.rng.percent(20) { 0x80 } else { 0 };
+        let residue = match self.rng.below(100) {
+            0..=3 => 0,
+            4..=11 => 40_959_999,
+            12..=84 => {
+                // The word falls after some units, or one unit before or after.
+                let units = self.rng.below(self.case.budget.min(12) + 2);
+                let left = 3 * self.case.time * units;
+                40_960_000u32.saturating_sub(left).saturating_sub(self.rng.below(4)).wrapping_add(self.rng.below(4))
+            }
+            _ => self.rng.below(40_960_000),
+        };
+        model::set_word(&mut self.case.record, 204, residue.min(40_959_999));
+        if self.system_370() {
+            let word = self.interval_timer_word();
+            self.poke_real(80, &word.to_be_bytes());
+        }
+    }
+
+    /// A word at real 80 near the ends of its range.
+    fn interval_timer_word(&mut self) -> u32 {
+        match self.rng.below(100) {
+            0..=29 => self.rng.below(256),
+            30..=34 => self.rng.pick(&[0, 1, 254, 255, 256, 257]),
+            35..=44 => 256 + self.rng.below(512),
+            45..=59 => 0x8000_0000 + self.rng.below(256),
+            60..=64 => 0x8000_0000 + self.rng.pick(&[0, 1, 255, 256, 257]),
+            65..=74 => 0xFFFF_FF00 + self.rng.below(256),
+            75..=79 => 0x7FFF_FF00 + self.rng.below(256),
+            _ => self.rng.word(),
+        }
+    }
+
+    /// Takes the host page of the prefix block away, or protects it, after all has been laid.
+    fn disturb_prefix_page(&mut self) {
+        if !self.system_370() || !self.rng.percent(8) {
+            return;
+        }
+        let Some(at) = self.host_page_entry_at(self.prefix >> 12) else { return };
+        let mut entry = model::word(&self.case.storage, at as usize);
+        match self.rng.below(10) {
+            0..=2 => entry |= 0x200,
+            3..=4 => entry |= 0x400,
+            5 => entry |= self.rng.pick(&[0x8000_0000, 0x800, 0x100]),
+            6 => entry = (self.frames + self.rng.pick(&[0, 0, 1, 100])) << 12 | self.rng.pick(&[0, 0x200]),
+            7 => entry |= self.rng.pick(&[0x300, 0x600, 0xA00]),
+            _ => {
+                // The segment entry: no table, a malformed one, or a length too short.
+                let host_page = self.origin * 16 + (self.prefix >> 12);
+                let segment_at = (self.case.designation & 0x7FFF_F000) + 4 * (host_page >> 8);
+                let segment_entry = model::word(&self.case.storage, segment_at as usize);
+                let changed = match self.rng.below(3) {
+                    0 => segment_entry | 0x20,
+                    1 => segment_entry | 0x8000_0000,
+                    _ => segment_entry & !15 | (host_page >> 4 & 15).saturating_sub(1),
+                };
+                self.put_word(segment_at, changed);
+            }
+        }
+        self.put_word(at, entry);
+    }
+
     fn set_keys(&mut self) {
         let strange = self.rng.pick(&[0, 0, 8, 40]);
         for frame in 0..self.frames as usize {
@@ -1123,8 +1388,57 @@ impl<'a> Builder<'a> {
     fn damage(&mut self) {
         let times = if self.rng.percent(25) { 2 } else { 1 };
         for _ in 0..times {
+            if self.machine != Machine::Xa && self.rng.percent(60) {
+                self.damage_larger_record();
+                continue;
+            }
             let kind = self.rng.below(14);
             self.damage_one(kind);
+        }
+    }
+
+    fn damage_larger_record(&mut self) {
+        let record = &mut self.case.record;
+        if record.len() != 208 {
+            return;
+        }
+        match self.rng.below(12) {
+            // The length field of one record and the bytes or the version of the other.
+            0 => record[1] = 200,
+            1 => {
+                record[1] = 200;
+                record[2] = 1;
+            }
+            2 => record.truncate(200),
+            3 => record[2] = 1,
+            4 => record[2] = self.rng.pick(&[0, 3, 0x82, 0xFF]),
+            5 => {
+                record.truncate(200);
+                record[1] = 200;
+            }
+            // System/370 in the record of 200 bytes.
+            6 => {
+                record.truncate(200);
+                record[1] = 200;
+                record[2] = 1;
+            }
+            7 => {
+                let length = self.rng.pick(&[200, 204, 207, 209, 408]);
+                record.resize(length, 0);
+            }
+            8 => record[self.rng.range(201, 203) as usize] = 1 << self.rng.below(8),
+            9 => {
+                let residue = self.rng.pick(&[40_959_999, 40_960_000, 40_960_000, 40_960_001, 1 << 31, u32::MAX]);
+                model::set_word(record, 204, residue);
+            }
+            // One of prefix bits 1-7, with an extent that leaves room for it or not.
+            10 => {
+                record[8] |= 1 << self.rng.below(7);
+                if self.rng.percent(60) {
+                    record[12..16].copy_from_slice(&[0, 0, 0x80, 0]);
+                }
+            }
+            _ => record[4] = record[4] & 0xF1 | self.rng.pick(&[0x00, 0x02, 0x06, 0x0A, 0x0C, 0x0E]),
         }
     }
 

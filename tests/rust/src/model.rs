@@ -1,5 +1,6 @@
-//! Check, translate and run, written from document 01 alone and byte by byte. The headings cited are its own. Bit 0 is
-//! the leftmost bit. Nothing is kept from one byte to the next, so that each sentence of the rules stands in one place.
+//! Check, translate and run, written from document 01 and request 1/12 of document 02 alone, and byte by byte. The
+//! headings cited are those of document 01. Bit 0 is the leftmost bit. Nothing is kept from one byte to the next, so
+//! that each sentence of the rules stands in one place.
 
 /// An answer of check, translate or run.
 #[derive(Clone, Copy, PartialEq, Eq, Debug)]
@@ -22,8 +23,18 @@ pub enum Answer {
 pub struct Run {
     pub answer: Answer,
     pub units: u32,
-    /// The guest interruptions presented, for the tally: the program code, or SVC_INTERRUPTION.
-    pub interruptions: Vec<u8>,
+    pub events: Events,
+}
+
+/// What happened on the way, for the tally.
+#[derive(Default)]
+pub struct Events {
+    /// The guest interruptions presented: the form of the old PSW, and the program code or SVC_INTERRUPTION.
+    pub interruptions: Vec<(Form, u8)>,
+    /// How often the word of the interval timer fell, how often that set T, and whether a host fault kept it from it.
+    pub falls: u32,
+    pub turns: u32,
+    pub fault_at_word: bool,
 }
 
 pub const SVC_INTERRUPTION: u8 = 0xFF;
@@ -41,7 +52,7 @@ pub const SEGMENT_TRANSLATION: u8 = 0x10;
 pub const PAGE_TRANSLATION: u8 = 0x11;
 pub const TRANSLATION_SPECIFICATION: u8 = 0x12;
 
-// "The record, 200 bytes, big-endian"
+// "The record, 200 bytes, big-endian", and "The record becomes version 2, 208 bytes".
 const VERSION: usize = 2;
 const INTERVENTION: usize = 3;
 const MODE: usize = 4;
@@ -63,6 +74,11 @@ const RESULT_ADDRESS: usize = 56;
 const RESULT_TEXT: usize = 60;
 const CONTROL_REGISTERS: usize = 72;
 const GENERAL_REGISTERS: usize = 136;
+const TIMER_REQUEST: usize = 200;
+const RESIDUE: usize = 204;
+
+/// The residue stays below it: "0 to 40,959,999".
+const RESIDUE_LIMIT: u32 = 40_960_000;
 
 pub fn halfword(bytes: &[u8], at: usize) -> u32 {
     (bytes[at] as u32) << 8 | bytes[at + 1] as u32
@@ -106,31 +122,80 @@ fn bit(value: u32, number: u32) -> bool {
     value & (0x8000_0000 >> number) != 0
 }
 
+/// The forms of a PSW.
+#[derive(Clone, Copy, PartialEq, Eq, Debug)]
+pub enum Form {
+    /// System/370, bit 12 zero.
+    Bc,
+    /// System/370, bit 12 one.
+    Ec,
+    /// 370-XA, whatever bit 12 is.
+    Xa,
+}
+
+/// Mode bits 4-5: 01 is System/370, 10 is 370-XA. No other is asked for its form: the entry fails.
+fn system_370(record: &[u8]) -> bool {
+    record[MODE] & 0x0C == 0x04
+}
+
+fn form(record: &[u8]) -> Form {
+    match (system_370(record), psw_bit(record, 12)) {
+        (false, _) => Form::Xa,
+        (true, true) => Form::Ec,
+        (true, false) => Form::Bc,
+    }
+}
+
+/// Condition code and program mask stand in bits 34-39 of a BC PSW, else in bits 18-23: the byte they are in.
+fn condition_byte(record: &[u8]) -> usize {
+    if form(record) == Form::Bc {
+        PSW + 4
+    } else {
+        PSW + 2
+    }
+}
+
 fn set_condition_code(record: &mut [u8], code: u8) {
-    record[PSW + 2] = record[PSW + 2] & !0x30 | code << 4;
+    let at = condition_byte(record);
+    record[at] = record[at] & !0x30 | code << 4;
 }
 
 fn condition_code(record: &[u8]) -> u8 {
-    record[PSW + 2] >> 4 & 3
+    record[condition_byte(record)] >> 4 & 3
 }
 
-/// "Logical addresses wrap at 2^24 or 2^31 by PSW bit 32."
+/// The program mask's bit for fixed-point overflow: 36 of a BC PSW, else 20.
+fn overflow_is_enabled(record: &[u8]) -> bool {
+    record[condition_byte(record)] & 0x08 != 0
+}
+
+/// "Logical addresses wrap at 2^24 or 2^31 by PSW bit 32."; in System/370 mode at 2^24, whatever that bit is.
 fn wrap(record: &[u8], address: u32) -> u32 {
-    if psw_bit(record, 32) {
+    if psw_bit(record, 32) && !system_370(record) {
         address & 0x7FFF_FFFF
     } else {
         address & 0x00FF_FFFF
     }
 }
 
-fn instruction_address(record: &[u8]) -> u32 {
-    word(record, PSW + 4) & 0x7FFF_FFFF
+/// The bits of the PSW's second word that are the address: 33-63, in System/370 mode 40-63.
+fn address_field(record: &[u8]) -> u32 {
+    if system_370(record) {
+        0x00FF_FFFF
+    } else {
+        0x7FFF_FFFF
+    }
 }
 
+fn instruction_address(record: &[u8]) -> u32 {
+    word(record, PSW + 4) & address_field(record)
+}
+
+/// The bits left of the address stay: of a BC PSW the instruction-length code, the condition code and the program mask.
 fn set_instruction_address(record: &mut [u8], address: u32) {
-    let mode = word(record, PSW + 4) & 0x8000_0000;
+    let left = word(record, PSW + 4) & !address_field(record);
     let address = wrap(record, address);
-    set_word(record, PSW + 4, mode | address);
+    set_word(record, PSW + 4, left | address);
 }
 
 /// Advances the address by the length that the ILC stands for.
@@ -143,10 +208,13 @@ fn advance(record: &mut [u8], ilc: u8) {
 // The table of refusals: each operation makes the tests it has the input for, in the order of the numbers.
 
 fn refuse_record(record: &[u8]) -> Option<u8> {
-    if record.len() != 200 || halfword(record, 0) != 200 {
+    // "1 unless record and length field are both 200 or both 208"
+    let length = record.len();
+    if length != 200 && length != 208 || halfword(record, 0) as usize != length {
         return Some(1);
     }
-    if record[VERSION] != 1 {
+    // "2 unless the version is then 1 or 2 respectively"
+    if record[VERSION] != if length == 208 { 2 } else { 1 } {
         return Some(2);
     }
     None
@@ -176,6 +244,12 @@ fn refuse_reserved(record: &[u8]) -> Option<u8> {
     if record[66..72].iter().any(|&byte| byte != 0) {
         return Some(7);
     }
+    // "and 7 covers bytes 201-203 and a residue out of range", in every mode.
+    if record.len() == 208 {
+        if record[201..204].iter().any(|&byte| byte != 0) || word(record, RESIDUE) >= RESIDUE_LIMIT {
+            return Some(7);
+        }
+    }
     None
 }
 
@@ -192,13 +266,18 @@ pub fn refuse_run(record: &[u8], storage_len: usize, keys_len: usize, budget: u3
 
 /// Whether the entry is good, else code 32.
 pub fn entry_is_good(record: &[u8]) -> bool {
-    // Mode bits 4-5 must be 10, and bit 6 zero.
-    if record[MODE] & 0x0C != 0x08 || record[MODE] & 0x02 != 0 {
+    // Mode bits 4-5 must be 10, and bit 6 zero. "Mode 01 is now accepted in the new record only".
+    let mode_is_installed = record[MODE] & 0x0C == 0x08 || system_370(record) && record.len() == 208;
+    if !mode_is_installed || record[MODE] & 0x02 != 0 {
         return false;
     }
     let origin = halfword(record, ORIGIN);
     let extent = halfword(record, EXTENT);
     if origin > 32_767 || extent == 0 || origin + extent > 32_768 {
+        return false;
+    }
+    // "prefix bits 1-7 not zero there fail entry"
+    if system_370(record) && word(record, PREFIX) & 0x7F00_0000 != 0 {
         return false;
     }
     prefix(record) as u64 + 4096 <= extent_bytes(record)
@@ -313,7 +392,9 @@ impl View<'_> {
 
     /// The guest's tables: the real address and whether the guest page is protected.
     fn guest_translate(&self, logical: u32) -> Result<(u32, bool), Failure> {
-        if !psw_bit(self.record, 5) {
+        // In System/370 mode there is no DAT: bit 5 of a BC PSW is a channel's mask, and an EC PSW with bit 5 one has
+        // been answered by code 32.
+        if system_370(self.record) || !psw_bit(self.record, 5) {
             return Ok((logical, false));
         }
         let page_address = logical & 0x7FFF_F000;
@@ -427,8 +508,9 @@ enum Operation {
     Mandatory,
 }
 
-/// The operation and whether it is privileged. None: operation exception.
-fn lookup(text: &[u8]) -> Option<(Operation, bool)> {
+/// The operation and whether it is privileged. None: operation exception. In System/370 mode "opcodes 9C to 9F are
+/// code 4 and B230 to B23C operation exceptions".
+fn lookup(system_370: bool, text: &[u8]) -> Option<(Operation, bool)> {
     let found = match text[0] {
         0x07 => (Operation::BranchOnConditionRegister, false),
         0x0A => (Operation::SupervisorCall, false),
@@ -441,12 +523,13 @@ fn lookup(text: &[u8]) -> Option<(Operation, bool)> {
         0x58 => (Operation::Load, false),
         0x82 => (Operation::LoadPsw, true),
         0x83 => (Operation::Mandatory, true),
+        0x9C..=0x9F if system_370 => (Operation::Mandatory, true),
         0xAE => (Operation::Mandatory, true),
         0xB2 => match text[1] {
             0x05 => (Operation::StoreClock, false),
             0x08 => (Operation::SetCpuTimer, true),
             0x09 => (Operation::StoreCpuTimer, true),
-            0x30..=0x3C => (Operation::Mandatory, true),
+            0x30..=0x3C if !system_370 => (Operation::Mandatory, true),
             _ => return None,
         },
         0xB6 => (Operation::StoreControl, true),
@@ -505,7 +588,7 @@ fn arithmetic(first: u32, second: u32, subtract: bool) -> (u32, u8, bool) {
 
 /// What one unit is about to do. Nothing of it is done until it is known how the unit ends.
 struct Unit {
-    record: [u8; 200],
+    record: Vec<u8>,
     /// Host absolute address and byte.
     stores: Vec<(u32, u8)>,
     /// Frames to mark, with whether each was stored into.
@@ -571,7 +654,7 @@ fn instruction(view: &View, unit: &mut Unit, clock: u64) -> Instruction {
         }
         fetched += 1;
     }
-    let Some((operation, privileged)) = lookup(&text) else {
+    let Some((operation, privileged)) = lookup(system_370(record), &text) else {
         return exception(OPERATION, ilc, 0, &text);
     };
     if privileged && psw_bit(record, 15) {
@@ -641,7 +724,7 @@ fn execute(
                 arithmetic(general_register(record, first), general_register(record, second), subtract);
             set_general_register(&mut unit.record, first, result);
             set_condition_code(&mut unit.record, code);
-            if overflow && psw_bit(record, 20) {
+            if overflow && overflow_is_enabled(record) {
                 return Err(Failure::Guest(FIXED_POINT_OVERFLOW, 0));
             }
         }
@@ -733,13 +816,21 @@ fn guest_clock(record: &[u8], clock: u64) -> u64 {
     clock.wrapping_add(doubleword(record, EPOCH))
 }
 
-/// A guest interruption: old PSW, fields, new PSW. The fields start at real `fields_at`.
+/// A guest interruption: old PSW, fields, new PSW. The fields start at real `fields_at`: a zero, the ILC shifted, the
+/// interruption code in two bytes, and what else there is. The PSW at the unit's beginning decides the form: with a BC
+/// PSW code and ILC go into the stored old PSW, bits 16-31 and 32-33, and no field is stored.
 fn interrupt(view: &View, unit: &mut Unit, old: u32, new: u32, fields_at: u32, fields: &[u8]) -> Result<(), Failure> {
+    let mut old_psw = doubleword(&unit.record, PSW).to_be_bytes();
+    let mut fields = fields;
+    if form(view.record) == Form::Bc {
+        old_psw[2..4].copy_from_slice(&fields[2..4]);
+        old_psw[4] = old_psw[4] & 0x3F | fields[1] >> 1 << 6;
+        fields = &[];
+    }
     // "the old PSW's bytes are accessed first"
     let old_places = view.area(old, 8, Access::Store)?;
     let field_places = view.area(fields_at, fields.len() as u32, Access::Store)?;
     let new_places = view.area(new, 8, Access::Fetch)?;
-    let old_psw = doubleword(&unit.record, PSW).to_be_bytes();
     unit.store(&old_places, &old_psw);
     unit.store(&field_places, fields);
     set_doubleword(&mut unit.record, PSW, doubleword(&view.fetch(&new_places), 0));
@@ -747,9 +838,9 @@ fn interrupt(view: &View, unit: &mut Unit, old: u32, new: u32, fields_at: u32, f
     Ok(())
 }
 
-/// How a unit ends: complete, with the interruption presented if any, or an exit.
+/// How a unit ends: complete or an exit.
 enum UnitEnd {
-    Complete(Option<u8>),
+    Complete,
     Exit(Answer),
 }
 
@@ -760,6 +851,7 @@ struct Guest<'a> {
     designation: u32,
     clock: u64,
     time: u32,
+    events: Events,
 }
 
 impl Guest<'_> {
@@ -769,12 +861,13 @@ impl Guest<'_> {
         if record[INTERVENTION] & 0x04 != 0 {
             return self.intercept(40);
         }
-        if psw_bit(record, 1) || psw_bit(record, 16) {
+        // In System/370 mode "DAT on is code 32 [...] and joins step 2, which there sees EC PSWs only".
+        let form = form(record);
+        if form != Form::Bc && (psw_bit(record, 1) || psw_bit(record, 16)) || form == Form::Ec && psw_bit(record, 5) {
             return self.intercept(32);
         }
-        let mut before = [0; 200];
-        before.copy_from_slice(record);
-        let mut unit = Unit { record: before, stores: Vec::new(), marks: Vec::new() };
+        let before = record.to_vec();
+        let mut unit = Unit { record: before.clone(), stores: Vec::new(), marks: Vec::new() };
         if psw_is_malformed(record) {
             return self.program_exception(unit, SPECIFICATION, 0, 0, &[]);
         }
@@ -787,10 +880,18 @@ impl Guest<'_> {
         if external && bit(control_register_0, 21) && (doubleword(record, TIMER) as i64) < 0 {
             return self.intercept_external(0x1005);
         }
+        // "T with PSW bit 7 and CR0 bit 24, timer active, is code 20, 0080 hex, after step 5, and clears T."
+        let pending = interval_timer_is_active(record) && record[TIMER_REQUEST] & 0x80 != 0;
+        if external && bit(control_register_0, 24) && pending {
+            self.record[TIMER_REQUEST] &= 0x7F;
+            return self.intercept_external(0x0080);
+        }
         if record[INTERVENTION] & 0x01 != 0 && external {
             return self.intercept(16);
         }
-        if record[INTERVENTION] & 0x02 != 0 && psw_bit(record, 6) {
+        // "For a BC PSW the I/O request needs any one of bits 0-6."
+        let first_channel = if form == Form::Bc { 0 } else { 6 };
+        if record[INTERVENTION] & 0x02 != 0 && (first_channel..=6).any(|channel| psw_bit(record, channel)) {
             return self.intercept(24);
         }
         if psw_bit(record, 14) {
@@ -868,8 +969,17 @@ impl Guest<'_> {
         self.intercept(20)
     }
 
-    /// The stores, the marks and the time of a complete unit.
-    fn complete(&mut self, unit: Unit, interruption: Option<u8>) -> UnitEnd {
+    /// The stores, the marks and the time of a complete unit, and the interval timer.
+    fn complete(&mut self, mut unit: Unit, interruption: Option<u8>) -> UnitEnd {
+        // A host fault at the timer's word undoes the whole unit, so the word is looked for before anything is done.
+        let interval_timer = match self.add_to_residue(&mut unit) {
+            Ok(places) => places,
+            Err(failure) => {
+                self.events.fault_at_word = true;
+                return UnitEnd::Exit(host_fault(failure));
+            }
+        };
+        self.events.interruptions.extend(interruption.map(|code| (form(self.record), code)));
         self.record.copy_from_slice(&unit.record);
         for (place, byte) in unit.stores {
             self.storage[place as usize] = byte;
@@ -883,8 +993,51 @@ impl Guest<'_> {
         self.clock = self.clock.wrapping_add(self.time as u64);
         let timer = doubleword(self.record, TIMER).wrapping_sub(self.time as u64);
         set_doubleword(self.record, TIMER, timer);
-        UnitEnd::Complete(interruption)
+        if let Some(places) = interval_timer {
+            self.lower_word(&places);
+        }
+        UnitEnd::Complete
     }
+
+    /// "each completed unit adds three times its time to the residue; at 40,960,000 or more that much is taken off".
+    /// The answer then is the places of the word at guest real 80. They are tested as a store of four bytes into an
+    /// interruption area: no keys, no low-address protection, host page protection last, in the tables as they were
+    /// when the unit began. An interruption for a malformed PSW is a completed unit and adds like any other.
+    fn add_to_residue(&self, unit: &mut Unit) -> Result<Option<Vec<u32>>, Failure> {
+        if !interval_timer_is_active(self.record) {
+            return Ok(None);
+        }
+        let residue = word(self.record, RESIDUE) + 3 * self.time;
+        if residue < RESIDUE_LIMIT {
+            set_word(&mut unit.record, RESIDUE, residue);
+            return Ok(None);
+        }
+        set_word(&mut unit.record, RESIDUE, residue - RESIDUE_LIMIT);
+        let view =
+            View { record: self.record, storage: self.storage, keys: self.keys, designation: self.designation };
+        view.area(80, 4, Access::Store).map(Some)
+    }
+
+    /// "the word at guest real 80 falls by 256 with wrap. Going from nonnegative to negative sets T." It ends the unit:
+    /// the word is the one that the unit's own stores left. No key is marked.
+    fn lower_word(&mut self, places: &[u32]) {
+        let bytes: Vec<u8> = places.iter().map(|&place| self.storage[place as usize]).collect();
+        let before = word(&bytes, 0);
+        let after = before.wrapping_sub(256);
+        for (&place, byte) in places.iter().zip(after.to_be_bytes()) {
+            self.storage[place as usize] = byte;
+        }
+        self.events.falls += 1;
+        if before as i32 >= 0 && (after as i32) < 0 {
+            self.record[TIMER_REQUEST] |= 0x80;
+            self.events.turns += 1;
+        }
+    }
+}
+
+/// "When the interval timer is active (mode 01, bit 7 zero)"
+fn interval_timer_is_active(record: &[u8]) -> bool {
+    system_370(record) && record[MODE] & 0x01 == 0
 }
 
 /// The prefixed 4 KiB lie below the extent, so an interruption area can fail by a host fault only.
@@ -898,6 +1051,11 @@ fn host_fault(failure: Failure) -> Answer {
 /// Step 3 of "Before each unit".
 fn psw_is_malformed(record: &[u8]) -> bool {
     let ones = |first: usize, last: usize| (first..=last).any(|number| psw_bit(record, number));
+    match form(record) {
+        Form::Bc => return false,
+        Form::Ec => return psw_bit(record, 0) || ones(2, 4) || psw_bit(record, 17) || ones(24, 39),
+        Form::Xa => {}
+    }
     psw_bit(record, 0)
         || ones(2, 4)
         || psw_bit(record, 17)
@@ -932,6 +1090,10 @@ pub fn translate(record: &[u8], storage: &[u8], keys: &[u8], designation: u32, a
     if !entry_is_good(record) {
         return Answer::Intercepted(32);
     }
+    // "In mode 01, DAT on is code 32, in translate too (it also reads PSW bit 12)".
+    if form(record) == Form::Ec && psw_bit(record, 5) {
+        return Answer::Intercepted(32);
+    }
     let view = View { record, storage, keys, designation };
     let access = if access == 1 { Access::Store } else { Access::Fetch };
     match view.access(address, access) {
@@ -951,28 +1113,57 @@ pub fn run(
     time: u32,
     budget: u32,
 ) -> Run {
-    let mut interruptions = Vec::new();
+    let events = Events::default();
     if let Some(number) = refuse_run(record, storage.len(), keys.len(), budget, time) {
-        return Run { answer: Answer::Refused(number), units: 0, interruptions };
+        return Run { answer: Answer::Refused(number), units: 0, events };
     }
     record[RESULT_CODE..66].fill(0);
     if !entry_is_good(record) {
         record[RESULT_CODE] = 32;
-        return Run { answer: Answer::Intercepted(32), units: 0, interruptions };
+        return Run { answer: Answer::Intercepted(32), units: 0, events };
     }
-    let mut guest = Guest { record, storage, keys, designation, clock, time };
+    let mut guest = Guest { record, storage, keys, designation, clock, time, events };
     let mut units = 0;
     loop {
         if units == budget {
-            return Run { answer: Answer::BudgetUsed, units, interruptions };
+            return Run { answer: Answer::BudgetUsed, units, events: guest.events };
         }
         match guest.unit() {
-            UnitEnd::Complete(interruption) => {
-                units += 1;
-                interruptions.extend(interruption);
-            }
-            UnitEnd::Exit(answer) => return Run { answer, units, interruptions },
+            UnitEnd::Complete => units += 1,
+            UnitEnd::Exit(answer) => return Run { answer, units, events: guest.events },
         }
+    }
+}
+
+/// "Case file and worked examples": the line that the program prints for a case file, its newline left out.
+pub fn case_line(file: &[u8]) -> String {
+    // Length 4, version 1, designation 4, clock 8, time 4, budget 2; then the record, from its length field on.
+    let malformed = "R 9".to_string();
+    if file.len() < 25 || word(file, 0) as usize != file.len() - 4 || file[4] != 1 {
+        return malformed;
+    }
+    // "In case files its length field gives the record's size, 200 if not 208." So where a field of 200 stands before
+    // 208 bytes, byte 200 is the frame count, and the file is malformed when that is 0.
+    let size = if halfword(file, 23) == 208 { 208 } else { 200 };
+    let count_at = 23 + size;
+    if file.len() <= count_at {
+        return malformed;
+    }
+    let frames = file[count_at] as usize;
+    if !(1..=8).contains(&frames) || file.len() != count_at + 1 + frames + frames * FRAME {
+        return malformed;
+    }
+    let mut record = file[23..count_at].to_vec();
+    let mut keys = file[count_at + 1..count_at + 1 + frames].to_vec();
+    let mut storage = file[count_at + 1 + frames..].to_vec();
+    let (designation, clock, time) = (word(file, 5), doubleword(file, 9), word(file, 17));
+    let end = run(&mut record, &mut storage, &mut keys, designation, clock, time, halfword(file, 21));
+    match end.answer {
+        Answer::Refused(number) => format!("R {number}"),
+        Answer::Intercepted(code) => format!("I {code} {}", end.units),
+        Answer::HostFault(code, _) => format!("H {code} {}", end.units),
+        Answer::BudgetUsed => format!("B 0 {}", end.units),
+        Answer::ProgramException(_) | Answer::Good(_) => unreachable!("answers of translate and check"),
     }
 }
 

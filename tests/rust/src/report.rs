@@ -1,15 +1,26 @@
 //! What the programs print: the tally of ends, differences, and cases as files.
 
 use crate::ffi::{self, Packed};
-use crate::generate::Case;
-use crate::model::{Answer, FRAME, SVC_INTERRUPTION};
+use crate::generate::{Case, Machine};
+use crate::model::{Answer, Events, Form, FRAME, SVC_INTERRUPTION};
 use std::collections::BTreeMap;
 use std::fs;
+
+/// The machines that are tried.
+pub fn machines() -> Vec<Machine> {
+    if !ffi::takes_larger_record() {
+        println!("the library does not take the record of 208 bytes yet: cases with it are left out");
+        return vec![Machine::Xa];
+    }
+    vec![Machine::Xa, Machine::System370, Machine::XaLarger]
+}
 
 /// "Case file and worked examples": the bytes of a case file, where the format can hold the case.
 pub fn case_file(case: &Case) -> Option<Vec<u8>> {
     let frames = case.keys.len();
-    if case.record.len() != 200 || !(1..=8).contains(&frames) || case.storage.len() != frames * FRAME {
+    // A record's length field that does not tell its bytes would have the file read otherwise.
+    let size = if case.record.starts_with(&[0, 208]) { 208 } else { 200 };
+    if case.record.len() != size || !(1..=8).contains(&frames) || case.storage.len() != frames * FRAME {
         return None;
     }
     let budget = u16::try_from(case.budget).ok()?;
@@ -101,8 +112,8 @@ pub fn show_answer(name: &str, answer: Packed) -> String {
 }
 
 /// How often each end occurred, with the units of each.
-#[derive(Default)]
 pub struct Tally {
+    machine: Machine,
     /// Kind and number, to the units completed.
     ends: BTreeMap<(u32, u32), Vec<u32>>,
     /// Refusals of check and translate.
@@ -112,11 +123,36 @@ pub struct Tally {
     interruptions: BTreeMap<u32, u64>,
     /// Answers of translate: kind and number.
     translations: BTreeMap<(u32, u32), u64>,
+    /// Of System/370 mode alone, by name.
+    events: BTreeMap<&'static str, u64>,
 }
 
+/// What must occur in System/370 mode.
+const EVENTS: [&str; 7] = [
+    "interruptions with a BC PSW",
+    "interruptions with an EC PSW",
+    "falls of the word at real 80",
+    "falls that set T",
+    "host faults at the word",
+    "code 20 with 0080 hex",
+    "code 24 with a BC PSW and bit 6 zero",
+];
+
 impl Tally {
-    /// The end of a run, with the record it left and the interruptions it presented.
-    pub fn run(&mut self, end: Packed, record: &[u8], interruptions: &[u8]) {
+    pub fn new(machine: Machine) -> Tally {
+        Tally {
+            machine,
+            ends: BTreeMap::new(),
+            refusals: BTreeMap::new(),
+            intercepted_programs: BTreeMap::new(),
+            interruptions: BTreeMap::new(),
+            translations: BTreeMap::new(),
+            events: BTreeMap::new(),
+        }
+    }
+
+    /// The end of a run, with the record it left and what happened on the way.
+    pub fn run(&mut self, end: Packed, record: &[u8], events: &Events) {
         self.ends.entry((end.kind(), end.number())).or_default().push(end.units());
         if end.kind() == ffi::INTERCEPTED && end.number() == 8 {
             *self.intercepted_programs.entry(record[55] as u32).or_default() += 1;
@@ -127,8 +163,24 @@ impl Tally {
         if end.kind() == ffi::REFUSED {
             *self.refusals.entry(end.number()).or_default() += 1;
         }
-        for &code in interruptions {
+        for &(_, code) in &events.interruptions {
             *self.interruptions.entry(code as u32).or_default() += 1;
+        }
+        if self.machine == Machine::System370 {
+            let with = |form: Form| events.interruptions.iter().filter(|&&(old, _)| old == form).count() as u64;
+            let intercepted = |code: u32| end.kind() == ffi::INTERCEPTED && end.number() == code;
+            let counts = [
+                with(Form::Bc),
+                with(Form::Ec),
+                events.falls as u64,
+                events.turns as u64,
+                events.fault_at_word as u64,
+                (intercepted(20) && record[54..56] == [0x00, 0x80]) as u64,
+                (intercepted(24) && record[17] & 0x08 == 0 && record[16] & 0x02 == 0) as u64,
+            ];
+            for (name, count) in EVENTS.into_iter().zip(counts) {
+                *self.events.entry(name).or_default() += count;
+            }
         }
     }
 
@@ -145,6 +197,11 @@ impl Tally {
     }
 
     pub fn print(&mut self) {
+        match self.machine {
+            Machine::Xa => {}
+            Machine::System370 => println!("System/370 in the record of 208 bytes"),
+            Machine::XaLarger => println!("370-XA in the record of 208 bytes"),
+        }
         println!("ends of runs:                 cases   units: fewest  median    most      mean");
         let mut all = Vec::new();
         for ((kind, number), units) in &mut self.ends {
@@ -185,6 +242,9 @@ impl Tally {
             }
         }
         println!();
+        for (name, count) in &self.events {
+            println!("{name}: {count}");
+        }
     }
 
     /// What had to occur and never did.
@@ -208,12 +268,20 @@ impl Tally {
                 missing.push(format!("refusal {number}"));
             }
         }
-        for code in [0x01, 0x02, 0x04, 0x05, 0x06, 0x08, 0x10, 0x11, 0x12] {
-            if !self.intercepted_programs.contains_key(&code) {
+        // 10, 11 and 12 hex come from DAT.
+        let all = [0x01, 0x02, 0x04, 0x05, 0x06, 0x08, 0x10, 0x11, 0x12];
+        let codes = if self.machine == Machine::System370 { &all[..6] } else { &all[..] };
+        for code in codes {
+            if !self.intercepted_programs.contains_key(code) {
                 missing.push(format!("program exception {code:x} hex as an interception"));
             }
-            if !self.interruptions.contains_key(&code) {
+            if !self.interruptions.contains_key(code) {
                 missing.push(format!("program exception {code:x} hex as a guest interruption"));
+            }
+        }
+        for name in EVENTS {
+            if self.machine == Machine::System370 && self.events.get(name).is_none_or(|&count| count == 0) {
+                missing.push(name.to_string());
             }
         }
         missing

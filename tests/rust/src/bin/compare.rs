@@ -39,21 +39,29 @@ fn main() {
     let (cases, seed) = report::arguments(200_000);
     println!("compare: {cases} cases, seed {seed}");
     let start = Instant::now();
-    let mut tally = Tally::default();
-    let wishes = Wishes { damage: true, large_extents: true };
+    let machines = report::machines();
+    let mut tallies: Vec<Tally> = machines.iter().map(|&machine| Tally::new(machine)).collect();
+    let mut done = 0;
     for number in 0..cases {
-        let mut rng = Rng::new(seed, number);
-        let case = generate::case(&mut rng, wishes);
-        if !compare(&mut rng, &case, &mut tally) {
-            println!("difference in case {number} of seed {seed}");
-            report::keep_case(&case, "difference.case");
-            exit(1);
+        for (&machine, tally) in machines.iter().zip(&mut tallies) {
+            let Some(mut rng) = machine.rng(seed, number) else { continue };
+            let wishes = Wishes { machine, damage: true, large_extents: true };
+            let case = generate::case(&mut rng, wishes);
+            if !compare(&mut rng, &case, tally) {
+                println!("difference in case {number} of seed {seed}, {machine:?}");
+                report::keep_case(&case, "difference.case");
+                exit(1);
+            }
+            done += 1;
         }
     }
     let seconds = start.elapsed().as_secs_f64();
-    tally.print();
-    println!("{:.1} seconds, {:.0} cases a second", seconds, cases as f64 / seconds);
-    let missing = tally.missing();
+    let mut missing = Vec::new();
+    for tally in &mut tallies {
+        tally.print();
+        missing.extend(tally.missing());
+    }
+    println!("{:.1} seconds, {:.0} cases a second", seconds, done as f64 / seconds);
     for name in &missing {
         println!("never occurred: {name}");
     }
@@ -117,7 +125,7 @@ fn compare(rng: &mut Rng, case: &Case, tally: &mut Tally) -> bool {
         case.budget,
     );
     let owed = ffi::pack(end.answer, end.units);
-    tally.run(owed, &model_record, &end.interruptions);
+    tally.run(owed, &model_record, &end.events);
     let given = ffi::run(
         record.content(),
         storage.content(),

@@ -3,7 +3,7 @@
 //! same record, guest frames and keys, and touch nothing outside.
 
 use drevokas_tests::ffi::{self, Packed};
-use drevokas_tests::generate::{self, Case, Rng, Wishes};
+use drevokas_tests::generate::{self, Case, Machine, Rng, Wishes};
 use drevokas_tests::model::{self, Extent, FRAME};
 use drevokas_tests::report;
 use std::process::exit;
@@ -12,14 +12,22 @@ use std::time::Instant;
 fn main() {
     let (cases, seed) = report::arguments(50_000);
     println!("isolation: {cases} cases, seed {seed}");
+    for machine in report::machines() {
+        isolate(machine, cases, seed);
+    }
+    println!("isolation: holds");
+}
+
+fn isolate(machine: Machine, cases: u64, seed: u64) {
     let start = Instant::now();
     let (mut done, mut skipped, mut units, mut empty) = (0, 0, 0u64, 0);
+    let cases = if machine == Machine::XaLarger { cases / 8 } else { cases };
     let mut number = 0;
     while done < cases {
-        let mut rng = Rng::new(seed, number);
         number += 1;
+        let Some(mut rng) = machine.rng(seed, number - 1) else { continue };
         // A few refused runs and entries that fail: they have no guest frames, so all may differ.
-        let wishes = Wishes { damage: rng.percent(20), large_extents: rng.percent(20) };
+        let wishes = Wishes { machine, damage: rng.percent(20), large_extents: rng.percent(20) };
         let case = generate::case(&mut rng, wishes);
         let extent = extent_of(&case);
         if extent.entries.iter().any(|&entry| extent.frames.contains(&(entry as usize / FRAME))) {
@@ -30,7 +38,7 @@ fn main() {
         match compare(&case, &other, &extent) {
             Some(end) => units += end.units() as u64,
             None => {
-                println!("isolation fails in case {} of seed {seed}", number - 1);
+                println!("isolation fails in case {} of seed {seed}, {machine:?}", number - 1);
                 report::keep_case(&case, "isolation-1.case");
                 report::keep_case(&other, "isolation-2.case");
                 exit(1);
@@ -45,7 +53,6 @@ fn main() {
          guest frame, {seconds:.1} seconds",
         units as f64 / done.max(1) as f64
     );
-    println!("isolation: holds");
 }
 
 /// "A refused run has no entries that describe an extent and no guest frames."

@@ -1,9 +1,9 @@
 //! resume [CASES] [SEED]: a run of n units at once against the same run cut into pieces, each resumed with the record
 //! left and the clock advanced: unit by unit, and in pieces of random length. In many cases the CPU timer crosses zero
-//! at a cut.
+//! at a cut, or the interval timer's word falls there.
 
 use drevokas_tests::ffi::{self, Packed};
-use drevokas_tests::generate::{self, Case, Rng, Wishes};
+use drevokas_tests::generate::{self, Case, Machine, Rng, Wishes};
 use drevokas_tests::{model, report};
 use std::process::exit;
 use std::time::Instant;
@@ -11,14 +11,23 @@ use std::time::Instant;
 fn main() {
     let (cases, seed) = report::arguments(50_000);
     println!("resume: {cases} cases, seed {seed}");
+    for machine in report::machines() {
+        resume(machine, cases, seed);
+    }
+    println!("resume: holds");
+}
+
+fn resume(machine: Machine, cases: u64, seed: u64) {
     let start = Instant::now();
-    let (mut units, mut pieces, mut crossed) = (0u64, 0u64, 0u64);
+    let (mut units, mut pieces, mut crossed, mut fell) = (0u64, 0u64, 0u64, 0u64);
     for number in 0..cases {
-        let mut rng = Rng::new(seed, number);
-        let wishes = Wishes { damage: rng.percent(5), large_extents: true };
+        let Some(mut rng) = machine.rng(seed, number) else { continue };
+        let wishes = Wishes { machine, damage: rng.percent(5), large_extents: true };
         let mut case = generate::case(&mut rng, wishes);
         case.budget = case.budget.min(300);
-        if case.record.len() == 200 && rng.percent(70) {
+        // The interval timer is aimed as the case is made.
+        let chance = if machine == Machine::System370 { 20 } else { 70 };
+        if is_whole(&case) && rng.percent(chance) {
             aim_timer(&mut rng, &mut case);
         }
         let mut whole = case.clone();
@@ -28,8 +37,11 @@ fn main() {
             let result = run_in_pieces(&mut rng, &mut cut, unit_by_unit);
             pieces += result.pieces;
             crossed += result.crossed;
+            fell += result.fell;
             if !same(&whole, end, &cut, result.end, result.units) {
-                println!("resumed run differs in case {number} of seed {seed}, unit by unit: {unit_by_unit}");
+                println!(
+                    "resumed run differs in case {number} of seed {seed}, {machine:?}, unit by unit: {unit_by_unit}"
+                );
                 report::keep_case(&case, "resume.case");
                 exit(1);
             }
@@ -44,7 +56,17 @@ fn main() {
         println!("no cut where the CPU timer crossed zero");
         exit(1);
     }
-    println!("resume: holds");
+    if machine == Machine::System370 {
+        println!("{fell} cuts after a fall of the interval timer's word");
+        if fell == 0 && cases > 1000 {
+            exit(1);
+        }
+    }
+}
+
+/// Whether the record has one of the two lengths.
+fn is_whole(case: &Case) -> bool {
+    case.record.len() == 200 || case.record.len() == 208
 }
 
 /// Sets the CPU timer to reach zero, or one beside it, after some units, and lets it be seen.
@@ -71,15 +93,16 @@ struct Pieces {
     units: u32,
     pieces: u64,
     crossed: u64,
+    fell: u64,
 }
 
 fn run_in_pieces(rng: &mut Rng, case: &mut Case, unit_by_unit: bool) -> Pieces {
     let mut clock = case.clock;
     let mut left = case.budget;
-    let mut result = Pieces { end: Packed { word: 0, location: 0 }, units: 0, pieces: 0, crossed: 0 };
+    let mut result = Pieces { end: Packed { word: 0, location: 0 }, units: 0, pieces: 0, crossed: 0, fell: 0 };
     loop {
         let piece = if unit_by_unit { left.min(1) } else { rng.below(left.min(10) + 1).max(left.min(1)) };
-        let before = timer(case);
+        let (before, residue_before) = (timer(case), residue(case));
         result.end = run(case, clock, piece);
         result.pieces += 1;
         if result.end.kind() == ffi::REFUSED {
@@ -91,6 +114,7 @@ fn run_in_pieces(rng: &mut Rng, case: &mut Case, unit_by_unit: bool) -> Pieces {
             return result;
         }
         result.crossed += (before >= 0 && timer(case) < 0) as u64;
+        result.fell += (residue(case) < residue_before) as u64;
         result.units += units;
         clock = clock.wrapping_add(units as u64 * case.time as u64);
         left -= units;
@@ -101,8 +125,16 @@ fn run_in_pieces(rng: &mut Rng, case: &mut Case, unit_by_unit: bool) -> Pieces {
 }
 
 fn timer(case: &Case) -> i64 {
-    if case.record.len() == 200 {
+    if is_whole(case) {
         model::doubleword(&case.record, 24) as i64
+    } else {
+        0
+    }
+}
+
+fn residue(case: &Case) -> u32 {
+    if case.record.len() == 208 {
+        model::word(&case.record, 204)
     } else {
         0
     }
