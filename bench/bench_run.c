@@ -20,15 +20,18 @@ typedef uint64_t run_function(uint8_t *, size_t, uint8_t *, size_t, uint8_t *, s
                               uint32_t, uint64_t *);
 
 struct host {
-    uint8_t record[200], *storage, *keys;
+    uint8_t record[208], *storage, *keys;
     size_t frames;
 };
 
+enum form { XA, XA_DAT, EC, BC };
+
 struct kind {
     const char *name;
-    int dat;
+    enum form form;
     const uint8_t *text;
     size_t length;
+    uint32_t time;
 };
 
 static const uint8_t add_branch[] = {0x1a, 0x12, 0x47, 0xf0, 0x02, 0x00};
@@ -36,10 +39,19 @@ static const uint8_t load_store[] = {0x58, 0x10, 0x04, 0x00, 0x1a, 0x12, 0x50, 0
                                      0x41, 0x33, 0x00, 0x01, 0x47, 0xf0, 0x02, 0x00};
 static const uint8_t call[] = {0x0a, 0x00};
 
+/* With the greatest time per unit the interval timer's word falls in one of thirteen units. */
 static const struct kind kinds[] = {
-    {"AR+BC", 0, add_branch, sizeof add_branch},        {"AR+BC,DAT", 1, add_branch, sizeof add_branch},
-    {"L+AR+ST+LA+BC", 0, load_store, sizeof load_store}, {"L+AR+ST+LA+BC,DAT", 1, load_store, sizeof load_store},
-    {"SVC", 0, call, sizeof call},                       {"SVC,DAT", 1, call, sizeof call},
+    {"AR+BC", XA, add_branch, sizeof add_branch, 1},
+    {"AR+BC,DAT", XA_DAT, add_branch, sizeof add_branch, 1},
+    {"L+AR+ST+LA+BC", XA, load_store, sizeof load_store, 1},
+    {"L+AR+ST+LA+BC,DAT", XA_DAT, load_store, sizeof load_store, 1},
+    {"SVC", XA, call, sizeof call, 1},
+    {"SVC,DAT", XA_DAT, call, sizeof call, 1},
+    {"AR+BC,System/370-BC", BC, add_branch, sizeof add_branch, 1},
+    {"AR+BC,System/370-EC", EC, add_branch, sizeof add_branch, 1},
+    {"SVC,System/370-BC", BC, call, sizeof call, 1},
+    {"SVC,System/370-EC", EC, call, sizeof call, 1},
+    {"AR+BC,System/370-BC,falls", BC, add_branch, sizeof add_branch, 1048576},
 };
 
 #define KINDS (sizeof kinds / sizeof *kinds)
@@ -52,6 +64,18 @@ static void put32(uint8_t *at, uint32_t value)
     at[3] = (uint8_t)value;
 }
 
+static size_t record_length(const struct kind *k)
+{
+    return k->form == EC || k->form == BC ? 208 : 200;
+}
+
+/* A PSW at 200 hex, everything masked. */
+static void put_psw(uint8_t *at, const struct kind *k)
+{
+    put32(at, k->form == BC ? 0 : 0x00080000u | (k->form == XA_DAT ? 0x04000000u : 0));
+    put32(at + 4, record_length(k) == 200 ? 0x80000200u : 0x200u);
+}
+
 /* Host tables in frames 1 and 2; guest pages 0 to 3 in the last four frames, guest tables in pages 2 and 3. */
 static void set_up(struct host *h, const struct kind *k)
 {
@@ -61,12 +85,11 @@ static void set_up(struct host *h, const struct kind *k)
     memset(h->record, 0, sizeof h->record);
     memset(h->storage, 0, h->frames * FRAME);
     memset(h->keys, 0, h->frames);
-    h->record[1] = 200;
-    h->record[2] = 1;
-    h->record[4] = 8;
+    h->record[1] = (uint8_t)record_length(k);
+    h->record[2] = record_length(k) == 200 ? 1 : 2;
+    h->record[4] = record_length(k) == 200 ? 8 : 4;
     h->record[15] = 1;
-    put32(h->record + 16, 0x00080000u | (k->dat ? 0x04000000u : 0));
-    put32(h->record + 20, 0x80000200u);
+    put_psw(h->record + 16, k);
     put32(h->record + 72, 0x00b00000u);
     put32(h->record + 76, 0x2000);
     put32(h->record + 144, 1);
@@ -76,8 +99,7 @@ static void set_up(struct host *h, const struct kind *k)
     put32(page + 2 * FRAME, 0x3000);
     put32(page + 3 * FRAME, 0);
     put32(page + 3 * FRAME + 4, 0x1000);
-    put32(page + 96, 0x00080000u | (k->dat ? 0x04000000u : 0));
-    put32(page + 100, 0x80000200u);
+    put_psw(page + 96, k);
     memcpy(page + 0x200, k->text, k->length);
 }
 
@@ -95,11 +117,11 @@ static struct host host_of(size_t frames)
     return h;
 }
 
-static uint64_t call_run(run_function *run, struct host *h, uint32_t budget)
+static uint64_t call_run(run_function *run, struct host *h, const struct kind *k, uint32_t budget)
 {
     uint64_t where = 0;
 
-    return run(h->record, sizeof h->record, h->storage, h->frames * FRAME, h->keys, h->frames, FRAME, 0, 1, budget, &where);
+    return run(h->record, record_length(k), h->storage, h->frames * FRAME, h->keys, h->frames, FRAME, 0, k->time, budget, &where);
 }
 
 static double seconds(void)
@@ -120,7 +142,7 @@ static double best_of(run_function *run, struct host *h, const struct kind *k)
 
         set_up(h, k);
         start = seconds();
-        if (call_run(run, h, BUDGET) != ((uint64_t)DREVOKAS_BUDGET_USED << 56 | BUDGET)) {
+        if (call_run(run, h, k, BUDGET) != ((uint64_t)DREVOKAS_BUDGET_USED << 56 | BUDGET)) {
             fprintf(stderr, "bench_run: %s does not run\n", k->name);
             exit(2);
         }
@@ -141,7 +163,7 @@ static void compare(const struct kind *k, size_t frames)
         fprintf(stderr, "bench_run: %s: the two leave different bytes\n", k->name);
         exit(1);
     }
-    printf("%-20s %6zu %12.1f %12.1f %8.2f\n", k->name, frames, BUDGET / ours / 1e6, BUDGET / plain / 1e6, plain / ours);
+    printf("%-26s %6zu %12.1f %12.1f %8.2f\n", k->name, frames, BUDGET / ours / 1e6, BUDGET / plain / 1e6, plain / ours);
     free(a.storage);
     free(a.keys);
     free(b.storage);
@@ -166,7 +188,7 @@ static int count(const char *name, size_t frames, const char *who, unsigned long
     while (units > 0) {
         uint32_t now = units < BUDGET ? (uint32_t)units : BUDGET;
 
-        call_run(run, &h, now);
+        call_run(run, &h, &kinds[i], now);
         units -= now;
     }
     return 0;
@@ -178,8 +200,8 @@ int main(int argc, char **argv)
 
     if (argc == 5)
         return count(argv[1], (size_t)strtoul(argv[2], NULL, 10), argv[3], strtoul(argv[4], NULL, 10));
-    printf("%-20s %6s %12s %12s %8s\n", "case", "frames", "drevokas", "plain", "ratio");
-    printf("%-20s %6s %12s %12s\n", "", "", "Munits/s", "Munits/s");
+    printf("%-26s %6s %12s %12s %8s\n", "case", "frames", "drevokas", "plain", "ratio");
+    printf("%-26s %6s %12s %12s\n", "", "", "Munits/s", "Munits/s");
     for (i = 0; i < KINDS; i++) {
         compare(&kinds[i], 8);
         compare(&kinds[i], 4096);

@@ -30,7 +30,8 @@ for name in 'DAT off, fetch' 'DAT on, fetch' 'DAT on, store' 'DAT on, two host s
     counted bench_translate "$name" 8
     counted bench_translate "$name" 4096
 done
-for name in AR+BC AR+BC,DAT L+AR+ST+LA+BC L+AR+ST+LA+BC,DAT SVC SVC,DAT; do
+for name in AR+BC AR+BC,DAT L+AR+ST+LA+BC L+AR+ST+LA+BC,DAT SVC SVC,DAT AR+BC,System/370-BC AR+BC,System/370-EC \
+    SVC,System/370-BC SVC,System/370-EC AR+BC,System/370-BC,falls; do
     counted bench_run "$name" 8
     counted bench_run "$name" 4096
 done

@@ -1,8 +1,9 @@
-/* Written from document 01 alone, with its numbers spelt out here a second time, so that nothing is shared with what
-   it is compared with. */
+/* Written from document 01 and request 1/12 alone, with their numbers spelt out here a second time, so that nothing is
+   shared with what it is compared with. */
 #include "plain.h"
 
 enum { REFUSED = 0, INTERCEPTED = 1, HOST_FAULT = 2, EXCEPTION = 4, GOOD = 5 };
+enum { PERIOD = 40960000 };
 enum { PROTECTION = 4, ADDRESSING = 5, SEGMENT = 0x10, PAGE = 0x11, SPECIFICATION = 0x12, VALIDITY = 32 };
 
 #define BIT(i) (0x80000000u >> (i))
@@ -41,9 +42,9 @@ static uint64_t answer(uint64_t kind, uint64_t number)
 /* Refusal 1 or 2, or 0. */
 static unsigned bad_head(const uint8_t *record, size_t record_len)
 {
-    if (record_len != 200 || half(record) != 200)
+    if ((record_len != 200 && record_len != 208) || half(record) != record_len)
         return 1;
-    return record[2] == 1 ? 0 : 2;
+    return record[2] == (record_len == 200 ? 1 : 2) ? 0 : 2;
 }
 
 /* Refusal 3 or 4, or 0. */
@@ -56,14 +57,23 @@ static unsigned bad_sizes(size_t storage_len, size_t keys_len)
 
 static int reserved_used(const uint8_t *record)
 {
-    return (word(record + 66) | half(record + 70)) != 0;
+    if ((word(record + 66) | half(record + 70)) != 0)
+        return 1;
+    return record[2] == 2 && ((word(record + 200) & 0xffffff) != 0 || word(record + 204) >= PERIOD);
+}
+
+static int is_system370(const uint8_t *record)
+{
+    return (record[4] & 0x0c) == 0x04;
 }
 
 static int entry_fails(const uint8_t *record)
 {
     uint32_t prefix = word(record + 8) & BLOCK, origin = half(record + 12), extent = half(record + 14);
 
-    if ((record[4] & 0x0e) != 0x08)
+    if ((record[4] & 0x0e) != 0x08 && ((record[4] & 0x0e) != 0x04 || record[2] != 2))
+        return 1;
+    if (is_system370(record) && prefix > 0xffffffu)
         return 1;
     if (origin > 32767 || extent == 0 || origin + extent > 32768)
         return 1;
@@ -239,6 +249,7 @@ uint64_t plain_translate(const uint8_t *record, size_t record_len, const uint8_t
 {
     unsigned refusal = bad_head(record, record_len);
     struct space s;
+    uint32_t psw;
 
     if (refusal == 0)
         refusal = bad_sizes(storage_len, keys_len);
@@ -248,16 +259,23 @@ uint64_t plain_translate(const uint8_t *record, size_t record_len, const uint8_t
         return answer(REFUSED, 7);
     if (access > 2)
         return answer(REFUSED, 8);
+    psw = word(record + 16);
     *where = 0;
     if (entry_fails(record))
         return answer(INTERCEPTED, VALIDITY);
+    if (is_system370(record)) {
+        if ((psw & BIT(5)) && (psw & BIT(12)))
+            return answer(INTERCEPTED, VALIDITY);
+        psw &= ~BIT(5);
+        address &= 0xffffffu;
+    }
     s.storage = storage;
     s.length = (uint32_t)storage_len;
     s.designation = designation;
     s.prefix = word(record + 8) & BLOCK;
     s.origin = half(record + 12) * 65536;
     s.extent = half(record + 14) * 65536;
-    return reach_byte(&s, keys, word(record + 16), word(record + 72), word(record + 76),
+    return reach_byte(&s, keys, psw, word(record + 72), word(record + 76),
                       address & (record[20] & 0x80 ? 0x7fffffffu : 0xffffffu), access == 1, where);
 }
 
@@ -267,6 +285,7 @@ enum { BUDGET = 3 };
 
 struct cpu {
     uint32_t left, right; /* PSW */
+    int system370;
     uint64_t timer;
     uint32_t cr[16], gr[16];
 };
@@ -281,6 +300,10 @@ struct guest {
     uint32_t text[3];
     uint32_t frame[2];    /* frames that the text was fetched from */
     int frames;
+    uint8_t request;      /* of the interval timer; bit 0 is T */
+    uint32_t residue;
+    int active;           /* the interval timer is */
+    int dry;              /* the unit is tried: it stores and marks nothing */
     uint64_t stop;        /* the answer that ends the run, or 0 */
     uint64_t where;
     uint8_t results[14];
@@ -310,25 +333,39 @@ static void put64(uint8_t *p, uint64_t v)
     put32(p + 4, (uint32_t)v);
 }
 
+/* The PSW's form is BC. */
+static int basic(const struct cpu *c)
+{
+    return c->system370 && !(c->left & BIT(12));
+}
+
 static uint32_t wrap(const struct cpu *c, uint64_t a)
 {
-    return (uint32_t)(a & (c->right & BIT(0) ? 0x7fffffffu : 0xffffffu));
+    return (uint32_t)(a & ((c->right & BIT(0)) && !c->system370 ? 0x7fffffffu : 0xffffffu));
+}
+
+static uint32_t instruction_address(const struct cpu *c)
+{
+    return c->right & (c->system370 ? 0xffffffu : 0x7fffffffu);
 }
 
 static void go_to(struct cpu *c, uint32_t a)
 {
-    c->right = (c->right & BIT(0)) | wrap(c, a);
+    c->right = (c->right & (c->system370 ? 0xff000000u : BIT(0))) | wrap(c, a);
 }
 
 static void mark(struct guest *g, uint32_t at, int store)
 {
-    g->keys[at >> 12] |= store ? 6 : 4;
+    if (!g->dry)
+        g->keys[at >> 12] |= store ? 6 : 4;
 }
 
 static void mark_text(struct guest *g)
 {
     int i;
 
+    if (g->dry)
+        return;
     for (i = 0; i < g->frames; i++)
         g->keys[g->frame[i]] |= 4;
 }
@@ -372,11 +409,16 @@ static int interrupt(struct guest *g, uint32_t old, uint32_t code, uint32_t new,
     at = entry & BLOCK;
     left = word(g->storage + at + new);
     right = word(g->storage + at + new + 4);
-    put32(g->storage + at + old, g->c.left);
-    put32(g->storage + at + old + 4, g->c.right);
-    put32(g->storage + at + code, word_stored);
-    if (with_address)
-        put32(g->storage + at + code + 4, address);
+    if (basic(&g->c)) {
+        put32(g->storage + at + old, (g->c.left & 0xffff0000u) | (word_stored & 0xffff));
+        put32(g->storage + at + old + 4, word_stored >> 17 << 30 | (g->c.right & 0x3fffffffu));
+    } else {
+        put32(g->storage + at + old, g->c.left);
+        put32(g->storage + at + old + 4, g->c.right);
+        put32(g->storage + at + code, word_stored);
+        if (with_address)
+            put32(g->storage + at + code + 4, address);
+    }
     g->c.left = left;
     g->c.right = right;
     mark_text(g);
@@ -396,7 +438,7 @@ static int exception(struct guest *g, const struct cpu *before, uint64_t stop, u
         return host_fault(g, code, where);
     }
     if (!translation && g->ilc)
-        go_to(&g->c, (g->c.right & 0x7fffffffu) + 2u * g->ilc);
+        go_to(&g->c, instruction_address(&g->c) + 2u * g->ilc);
     if (code == 1 && (g->record[5] & 0x80))
         return intercept(g, 44, g->ilc, 0, 0, 1);
     if (g->record[5] & 0x40)
@@ -409,11 +451,11 @@ static int exception(struct guest *g, const struct cpu *before, uint64_t stop, u
 
 static uint64_t find(struct guest *g, uint32_t a, uint32_t n, int store, struct operand *o, uint32_t *failed_at)
 {
-    uint32_t here = 4096 - (a & 4095);
+    uint32_t here = 4096 - (a & 4095), psw = g->c.system370 ? g->c.left & ~BIT(5) : g->c.left;
     uint64_t stop, where = 0;
 
     *failed_at = a;
-    stop = reach_byte(&g->s, g->keys, g->c.left, g->c.cr[0], g->c.cr[1], a, store, &where);
+    stop = reach_byte(&g->s, g->keys, psw, g->c.cr[0], g->c.cr[1], a, store, &where);
     g->where = where;
     if (stop >> 56 != GOOD)
         return stop;
@@ -423,7 +465,7 @@ static uint64_t find(struct guest *g, uint32_t a, uint32_t n, int store, struct 
     o->second = 0;
     if (n > here) {
         *failed_at = wrap(&g->c, (uint64_t)a + here);
-        stop = reach_byte(&g->s, g->keys, g->c.left, g->c.cr[0], g->c.cr[1], *failed_at, store, &where);
+        stop = reach_byte(&g->s, g->keys, psw, g->c.cr[0], g->c.cr[1], *failed_at, store, &where);
         g->where = where;
         if (stop >> 56 != GOOD)
             return stop;
@@ -454,6 +496,8 @@ static void put(struct guest *g, const struct operand *o, const uint8_t *bytes)
 {
     uint32_t i;
 
+    if (g->dry)
+        return;
     for (i = 0; i < o->n; i++)
         g->storage[o->first + i] = bytes[i];
     for (; i < o->length; i++)
@@ -469,7 +513,7 @@ static int excepted(struct guest *g, unsigned code)
 static int fetch_half(struct guest *g, int i, int *done)
 {
     struct operand o;
-    uint32_t failed_at, a = wrap(&g->c, (uint64_t)(g->c.right & 0x7fffffffu) + 2u * (unsigned)i);
+    uint32_t failed_at, a = wrap(&g->c, (uint64_t)instruction_address(&g->c) + 2u * (unsigned)i);
     uint64_t stop = find(g, a, 2, 0, &o, &failed_at);
 
     if (stop) {
@@ -489,7 +533,20 @@ static uint32_t part(const struct cpu *c, uint32_t i)
 
 static void set_code(struct cpu *c, uint32_t code)
 {
-    c->left = (c->left & ~0x3000u) | code << 12;
+    if (basic(c))
+        c->right = (c->right & ~0x30000000u) | code << 28;
+    else
+        c->left = (c->left & ~0x3000u) | code << 12;
+}
+
+static uint32_t code_of(const struct cpu *c)
+{
+    return (basic(c) ? c->right >> 28 : c->left >> 12) & 3;
+}
+
+static int overflow_enabled(const struct cpu *c)
+{
+    return (basic(c) ? c->right & BIT(4) : c->left & BIT(20)) != 0;
 }
 
 static int sum(struct guest *g, uint32_t r1, uint32_t value, int overflow)
@@ -498,10 +555,10 @@ static int sum(struct guest *g, uint32_t r1, uint32_t value, int overflow)
 
     g->c.gr[r1] = value;
     set_code(&g->c, overflow ? 3 : value == 0 ? 0 : value & BIT(0) ? 1 : 2);
-    if (overflow && (g->c.left & BIT(20)))
+    if (overflow && overflow_enabled(&g->c))
         return exception(g, &before, answer(EXCEPTION, 8), 0, 0);
     mark_text(g);
-    go_to(&g->c, (g->c.right & 0x7fffffffu) + 2);
+    go_to(&g->c, instruction_address(&g->c) + 2);
     return 1;
 }
 
@@ -516,9 +573,9 @@ static int perform(struct guest *g)
 {
     struct cpu *c = &g->c;
     uint32_t first = g->text[0], op = first >> 8, r1 = first >> 4 & 15, r2 = first & 15;
-    uint32_t base = part(c, g->text[1] >> 12), disp = g->text[1] & 4095, next = (c->right & 0x7fffffffu) + 2u * g->ilc;
+    uint32_t base = part(c, g->text[1] >> 12), disp = g->text[1] & 4095, next = instruction_address(c) + 2u * g->ilc;
     uint32_t b2 = wrap(c, (uint64_t)base + disp), x2 = wrap(c, (uint64_t)base + part(c, r2) + disp);
-    uint32_t count = (r2 - r1) % 16 + 1, i, failed_at, taken = 8u >> (c->left >> 12 & 3) & r1;
+    uint32_t count = (r2 - r1) % 16 + 1, i, failed_at, taken = 8u >> code_of(c) & r1;
     int privileged = op == 0x82 || op == 0x83 || op == 0xae || op == 0xb6 || op == 0xb7;
     int asked = 0, mandatory = op == 0x83 || op == 0xae;
     uint8_t bytes[64];
@@ -527,9 +584,10 @@ static int perform(struct guest *g)
 
     if (op == 0xb2) {
         op = first;
-        privileged = op == 0xb208 || op == 0xb209 || (op >= 0xb230 && op <= 0xb23c);
-        mandatory = op >= 0xb230 && op <= 0xb23c;
-    }
+        mandatory = op >= 0xb230 && op <= 0xb23c && !c->system370;
+        privileged = op == 0xb208 || op == 0xb209 || mandatory;
+    } else if (op >= 0x9c && op <= 0x9f && c->system370)
+        privileged = mandatory = 1;
     if (privileged && (c->left & BIT(15)))
         return excepted(g, 2);
     if (op == 0x0a)
@@ -624,6 +682,31 @@ static int perform(struct guest *g)
     }
 }
 
+/* The PSW asks for what is not installed; it is malformed; an I/O interruption is enabled. */
+
+static int not_installed(const struct cpu *c)
+{
+    if (basic(c))
+        return 0;
+    return (c->left & (BIT(1) | BIT(16) | (c->system370 ? BIT(5) : 0))) != 0;
+}
+
+static int malformed(const struct cpu *c)
+{
+    if (basic(c))
+        return 0;
+    if (c->left & (BIT(0) | BIT(2) | BIT(3) | BIT(4) | BIT(17) | 255))
+        return 1;
+    if (c->system370)
+        return (c->right & 0xff000000u) != 0;
+    return !(c->left & BIT(12)) || (!(c->right & BIT(0)) && (c->right & 0x7f000000u));
+}
+
+static int io_enabled(const struct cpu *c)
+{
+    return (c->left & (basic(c) ? 0xfe000000u : BIT(6))) != 0;
+}
+
 /* One unit: 1 where it completed. */
 static int unit(struct guest *g)
 {
@@ -636,18 +719,21 @@ static int unit(struct guest *g)
     g->ilc = 0;
     if (requests & 4)
         return intercept(g, 40, 0, 0, 0, 0);
-    if (c->left & (BIT(1) | BIT(16)))
+    if (not_installed(c))
         return intercept(g, 32, 0, 0, 0, 0);
-    if ((c->left & (BIT(0) | BIT(2) | BIT(3) | BIT(4) | BIT(17) | 255)) || !(c->left & BIT(12))
-        || (!(c->right & BIT(0)) && (c->right & 0x7f000000u)))
+    if (malformed(c))
         return excepted(g, 6);
     if ((c->left & BIT(7)) && (c->cr[0] & BIT(20)) && g->clock + double_word(g->record + 40) > double_word(g->record + 32))
         return intercept(g, 20, 0, 0x1004, 0, 0);
     if ((c->left & BIT(7)) && (c->cr[0] & BIT(21)) && c->timer >> 63)
         return intercept(g, 20, 0, 0x1005, 0, 0);
+    if (g->active && (g->request & 128) && (c->left & BIT(7)) && (c->cr[0] & BIT(24))) {
+        g->request &= 127;
+        return intercept(g, 20, 0, 0x80, 0, 0);
+    }
     if ((requests & 1) && (c->left & BIT(7)))
         return intercept(g, 16, 0, 0, 0, 0);
-    if ((requests & 2) && (c->left & BIT(6)))
+    if ((requests & 2) && io_enabled(c))
         return intercept(g, 24, 0, 0, 0, 0);
     if (c->left & BIT(14))
         return intercept(g, 28, 0, 0, 0, 0);
@@ -663,6 +749,38 @@ static int unit(struct guest *g)
     if (length > 2 && !fetch_half(g, 2, &done))
         return done;
     return perform(g);
+}
+
+/* One unit with the interval timer's update, in which its word may fall. A host fault there undoes the unit. */
+static int timed_unit(struct guest *g, uint32_t time)
+{
+    uint32_t risen = g->residue + 3 * time, entry = 0, a = g->s.origin + g->s.prefix + 80, old;
+    struct cpu before = g->c;
+    unsigned failed = 0;
+    uint8_t *at;
+
+    if (risen >= PERIOD) {
+        failed = host_page(&g->s, a, &entry);
+        if (!failed && (entry & BIT(22)))
+            failed = PROTECTION;
+    }
+    g->dry = failed != 0;
+    if (!unit(g))
+        return 0;
+    if (failed) {
+        g->c = before;
+        return host_fault(g, failed, a);
+    }
+    g->residue = risen;
+    if (risen < PERIOD)
+        return 1;
+    g->residue = risen - PERIOD;
+    at = g->storage + ((entry & BLOCK) | 80);
+    old = word(at);
+    put32(at, old - 256);
+    if (old < 256)
+        g->request |= 128;
+    return 1;
 }
 
 uint64_t plain_run(uint8_t *record, size_t record_len, uint8_t *storage, size_t storage_len, uint8_t *keys, size_t keys_len,
@@ -702,6 +820,11 @@ uint64_t plain_run(uint8_t *record, size_t record_len, uint8_t *storage, size_t 
     g.clock = clock;
     g.stop = 0;
     g.where = 0;
+    g.dry = 0;
+    g.request = record_len == 208 ? record[200] : 0;
+    g.residue = record_len == 208 ? word(record + 204) : 0;
+    g.c.system370 = is_system370(record);
+    g.active = g.c.system370 && !(record[4] & 1);
     g.c.left = word(record + 16);
     g.c.right = word(record + 20);
     g.c.timer = double_word(record + 24);
@@ -709,9 +832,13 @@ uint64_t plain_run(uint8_t *record, size_t record_len, uint8_t *storage, size_t 
         g.c.cr[i] = word(record + 72 + 4 * i);
         g.c.gr[i] = word(record + 136 + 4 * i);
     }
-    for (units = 0; units < budget && unit(&g); units++) {
+    for (units = 0; units < budget && (g.active ? timed_unit(&g, time) : unit(&g)); units++) {
         g.c.timer -= time;
         g.clock += time;
+    }
+    if (g.active) {
+        record[200] = g.request;
+        put32(record + 204, g.residue);
     }
     put32(record + 16, g.c.left);
     put32(record + 20, g.c.right);

@@ -4,18 +4,9 @@
 # ended, and has failed.
 set -eu
 . "$(dirname "$0")/../tools/plain.sh"
-DREVOKAS=${DREVOKAS:-$(dirname "$0")/../target/bin/drevokas}
-if [ ! -x "$DREVOKAS" ]; then
-    echo "examples/check.sh: no $DREVOKAS; build it first, with make" >&2
-    exit 1
-fi
-DREVOKAS=$(cd "$(dirname "$DREVOKAS")" && pwd)/$(basename "$DREVOKAS")
+. "$(dirname "$0")/begin.sh"
 export DREVOKAS
-cd "$(dirname "$0")"
 EXAMPLES=$(pwd)
-OUT=$(mktemp -d)
-trap 'rm -rf "$OUT"' EXIT
-trap 'exit 1' HUP INT TERM
 cp ./*.txt "$OUT"
 
 # A command as it is typed, and what it prints.
@@ -64,12 +55,24 @@ protected_page() {
     show_explained after.case '^  (code|gr0-3) '
 }
 
+scheduler() {
+    show make scheduler.txt -o scheduler.case
+    show check scheduler.case
+    show run scheduler.case --after expired.case
+    show trace scheduler.case
+    show_explained expired.case '^  (code|interruption|interval timer|T|residue) '
+    show make scheduler_external.txt --from expired.case -o presented.case
+    show trace presented.case --budget 6
+    timeout 120 sh "$EXAMPLES/scheduler.sh"
+}
+
 run() {
     timeout 60 sh "$EXAMPLES/run.sh"
 }
 
+names='batch page_exception protected_page run scheduler'
 differ=0
-for name in batch page_exception protected_page run; do
+for name in $names; do
     set +e
     (set -e && cd "$OUT" && "$name") > "$OUT/$name.got"
     status=$?
@@ -84,5 +87,5 @@ for name in batch page_exception protected_page run; do
         differ=$((differ + 1))
     fi
 done
-echo "4 examples, $differ differ"
+echo "$(echo $names | wc -w) examples, $differ differ"
 [ "$differ" -eq 0 ]

@@ -4,16 +4,7 @@
 # another command.
 set -eu
 . "$(dirname "$0")/../tools/plain.sh"
-DREVOKAS=${DREVOKAS:-$(dirname "$0")/../target/bin/drevokas}
-if [ ! -x "$DREVOKAS" ]; then
-    echo "examples/run.sh: no $DREVOKAS; build it first, with make" >&2
-    exit 1
-fi
-DREVOKAS=$(cd "$(dirname "$DREVOKAS")" && pwd)/$(basename "$DREVOKAS")
-cd "$(dirname "$0")"
-OUT=$(mktemp -d)
-trap 'rm -rf "$OUT"' EXIT
-trap 'exit 1' HUP INT TERM
+. "$(dirname "$0")/begin.sh"
 
 # run ARGUMENT...: the line of a run; its sentence is shown only if the run fails.
 run() {

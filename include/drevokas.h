@@ -1,14 +1,15 @@
 /*
- * Drevokas: interpretive execution of one 370-XA guest CPU with pageable storage.
+ * Drevokas: interpretive execution of one 370-XA or System/370 guest CPU with pageable storage.
  *
- * Numbers and byte positions are those of document 01, "Definition of the build and its rules". Bit 0 is the
- * leftmost bit, and what stands in bytes is big-endian.
+ * Numbers and byte positions are those of document 01, "Definition of the build and its rules", and of request 1/12 to
+ * it. Bit 0 is the leftmost bit, and what stands in bytes is big-endian.
  *
- * The record, 200 bytes:
- *   0-1 length (200); 2 version (1); 3 intervention requests; 4 mode; 5 interception controls;
+ * The record, 200 bytes with version 1, or 208 with version 2, which System/370 needs:
+ *   0-1 length (200 or 208); 2 version (1 or 2); 3 intervention requests; 4 mode; 5 interception controls;
  *   6-7 LCTL controls; 8-11 prefix; 12-13 origin; 14-15 extent (both in 64 KiB blocks); 16-23 PSW;
  *   24-31 CPU timer; 32-39 clock comparator; 40-47 epoch difference; 48 SVC flags; 49-51 SVC numbers;
- *   52-65 results; 66-71 zero; 72-135 control registers 0-15; 136-199 general registers 0-15.
+ *   52-65 results; 66-71 zero; 72-135 control registers 0-15; 136-199 general registers 0-15;
+ *   of 208 bytes: 200 interval-timer request (bit 0 is T); 201-203 zero; 204-207 residue (0 to 40,959,999).
  *
  * Handed in beside it: host storage, 1 to 4,096 frames of 4,096 bytes; one key byte for each frame; the host
  * segment-table designation.
@@ -31,9 +32,11 @@ extern "C" {
 /* The version of library, header and command. */
 #define DREVOKAS_VERSION "1.0"
 
-/* Limits. */
+/* Limits. The longer record is that of version 2. */
 #define DREVOKAS_RECORD_LENGTH 200u
 #define DREVOKAS_RECORD_VERSION 1u
+#define DREVOKAS_LONG_RECORD_LENGTH 208u
+#define DREVOKAS_LONG_RECORD_VERSION 2u
 #define DREVOKAS_FRAME_BYTES 4096u
 #define DREVOKAS_MOST_FRAMES 4096u
 #define DREVOKAS_MOST_UNITS 65535u
@@ -48,20 +51,20 @@ extern "C" {
 #define DREVOKAS_GOOD 5u              /* number: 0; check: good; translate: translated */
 
 /* Refusals, tested in this order, each where the operation has that input. */
-#define DREVOKAS_REFUSAL_LENGTH 1u   /* record or its length field is not 200 */
-#define DREVOKAS_REFUSAL_VERSION 2u  /* version is not 1 */
+#define DREVOKAS_REFUSAL_LENGTH 1u   /* record and its length field are not both 200 or both 208 */
+#define DREVOKAS_REFUSAL_VERSION 2u  /* version is not 1, or not 2 in a record of 208 bytes */
 #define DREVOKAS_REFUSAL_STORAGE 3u  /* storage is empty, over 4,096 frames or not whole frames */
 #define DREVOKAS_REFUSAL_KEYS 4u     /* number of keys differs from number of frames */
 #define DREVOKAS_REFUSAL_BUDGET 5u   /* budget over 65,535; an answer of run alone */
 #define DREVOKAS_REFUSAL_TIME 6u     /* time per unit over 1,048,576; an answer of run alone */
-#define DREVOKAS_REFUSAL_RESERVED 7u /* one of bytes 66-71 is not zero */
+#define DREVOKAS_REFUSAL_RESERVED 7u /* one of bytes 66-71, or of 201-203, is not zero; or a residue out of range */
 #define DREVOKAS_REFUSAL_ACCESS 8u   /* access kind is not 0, 1 or 2 */
 
 /* Interception codes. */
 #define DREVOKAS_CODE_INSTRUCTION 4u       /* the controls ask for it, or it is mandatory */
 #define DREVOKAS_CODE_PROGRAM 8u           /* program exception */
 #define DREVOKAS_CODE_EXTERNAL_REQUEST 16u /* external request */
-#define DREVOKAS_CODE_EXTERNAL 20u         /* external interruption: comparator or CPU timer */
+#define DREVOKAS_CODE_EXTERNAL 20u         /* external interruption: comparator, CPU timer or interval timer */
 #define DREVOKAS_CODE_IO_REQUEST 24u       /* I/O request */
 #define DREVOKAS_CODE_WAIT 28u             /* wait state */
 #define DREVOKAS_CODE_VALIDITY 32u         /* entry: mode, origin and extent, or prefix; or a PSW bit of a facility not installed */
@@ -120,11 +123,13 @@ uint64_t drevokas_check(const uint8_t *record, size_t record_len);
 
 /*
  * Translates one guest logical address, for one byte and one access kind. Takes any 32-bit address, which wraps at
- * 2^24 or 2^31 by PSW bit 32. Of the PSW only bits 5, 8-11 and 32 are used. Answers:
+ * 2^24 or 2^31 by PSW bit 32. Of the PSW only bits 5, 8-11 and 32 are used; of a System/370 guest bits 5, 8-11 and 12,
+ * and it wraps at 2^24. Answers:
  *
  *   kind                         number                      *where
  *   DREVOKAS_REFUSED             1, 2, 3, 4, 7 or 8          not touched
- *   DREVOKAS_INTERCEPTED         32: entry would fail        0
+ *   DREVOKAS_INTERCEPTED         32: entry would fail, or    0
+ *                                DAT is on for System/370
  *   DREVOKAS_HOST_FAULT          4, 5, 10, 11 or 12 hex      host virtual address of the byte or of the first byte of
  *                                                            the guest table entry reached for
  *   DREVOKAS_PROGRAM_EXCEPTION   4, 5, 10, 11 or 12 hex      0

@@ -16,7 +16,7 @@ static int bad_usage(const struct usage *u)
 
 static int print_help(const struct usage *u)
 {
-    printf("usage: drevokas %s\n\n%s", u->synopsis, u->help);
+    printf("usage: drevokas %s\n\n%s%s", u->synopsis, u->help, u->more != NULL ? u->more : "");
     return finished(STATUS_GOOD);
 }
 

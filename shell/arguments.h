@@ -16,7 +16,7 @@
 /* What a sub-command takes. */
 struct usage {
     const char *synopsis;               /* one line, without the program's name */
-    const char *help;                   /* the rest of what --help prints */
+    const char *help, *more;            /* the rest of what --help prints; more may be NULL */
     unsigned operands;                  /* so many, no fewer and no more */
     const char *options[MOST_OPTIONS];  /* names with their dashes, or NULL; with a value: "--name VALUE", "--name=VALUE" */
 };

@@ -8,6 +8,9 @@
 /* The length in bytes of the instruction of this name, an extended branch too; 0 if there is none. */
 unsigned length_of_named(const char *name, size_t length);
 
+/* Whether this is the name of an instruction of System/370's channels. */
+int is_channel_name(const char *name, size_t length);
+
 /* The names of the listed instructions, in one line. */
 void list_instructions(char *line, size_t room);
 

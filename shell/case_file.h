@@ -8,10 +8,11 @@
 #include <stddef.h>
 #include <stdint.h>
 
-#define RECORD_BYTES 200
+#include "fields.h"
+
 #define FRAME_BYTES 4096
 #define MOST_FRAMES 8
-#define MOST_FILE_BYTES 33000
+#define MOST_FILE_BYTES 33008
 #define FILE_VERSION 1
 
 struct case_file {
@@ -19,7 +20,7 @@ struct case_file {
     uint64_t clock;
     uint32_t time;
     uint16_t budget;
-    uint8_t record[RECORD_BYTES];
+    uint8_t record[MOST_RECORD_BYTES];  /* zeros behind one of 200 bytes */
     unsigned frames;
     uint8_t keys[MOST_FRAMES];
     uint8_t storage[MOST_FRAMES * FRAME_BYTES];

@@ -3,7 +3,7 @@
 #include <string.h>
 
 #include "../include/drevokas.h"
-#include "fields.h"
+#include "interval.h"
 #include "psw.h"
 
 /* ---- where ---- */
@@ -23,12 +23,10 @@ static uint32_t advanced(const struct case_file *c)
 
 struct text ending_text(const struct case_file *c)
 {
-    uint64_t psw = field_of(c->record, "psw");
+    struct psw psw = psw_of(c->record);
     uint32_t back = advanced(c);
 
-    if (back != 0)
-        psw = (psw & ~(uint64_t)0x7fffffff) | psw_wrapped(psw, psw_address(psw) - back);
-    return fetch_text(c, psw);
+    return fetch_text(c, back != 0 ? psw_at(psw, psw_address(psw) - back) : psw);
 }
 
 /* The instruction with one blank after its name, and its address: "SVC 5 at 00000206". */
@@ -78,7 +76,7 @@ static void add_validity_cause(const struct case_file *c, char *text)
     if (entry_sentence(c->record, entry, sizeof entry))
         add(text, "validity, %s", entry);
     else
-        add(text, "validity, PSW %s", psw_not_installed(field_of(c->record, "psw")));
+        add(text, "validity, PSW %s", psw_not_installed(psw_of(c->record)));
 }
 
 /* Why the run was intercepted with this code. */
@@ -141,6 +139,8 @@ static void fault_sentence(const struct ending *e, const struct case_file *c, ch
 
     add_cause(e, c, text);
     add_doer(&t, text);
+    if (interval_falls(c) && interval_place(c).host == e->where)
+        add(text, ", with the fall of the interval timer's word");
 }
 
 void ending_sentence(const struct ending *e, const struct case_file *c, char text[SENTENCE])

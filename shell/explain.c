@@ -22,14 +22,15 @@
 static const struct usage usage = {
     "explain FILE [--pages N]",
     "Shows a case file, or standard input if FILE is -: its numbers; the record field by field; whether\n"
-    "entry would succeed, and what a run of one unit would answer; the PSW bit by bit; timers in\n"
-    "hexadecimal and in microseconds; control and general registers; the guest's pages by the host's\n"
-    "tables, with the host absolute address of the page's entry, frame, protection, key and the pages\n"
-    "that share the frame; and the instruction at the PSW. Nothing is changed.\n\n"
+    "entry would succeed, and what a run of one unit would answer; the PSW bit by bit, by its form;\n"
+    "timers in hexadecimal and in microseconds, and System/370's interval timer; control and general\n"
+    "registers; the guest's pages by the host's tables, with the host absolute address of the page's\n"
+    "entry, frame, protection, key and the pages that share the frame; and the instruction at the PSW.\n"
+    "Nothing is changed.\n\n"
     "  --pages N        list the pages in N lines at most, 0 to 524288; 64 if nothing is said\n\n"
     "Exit status: 0, 1 if the file is malformed or a run of it would be refused, 2 for bad usage or a\n"
     "file that cannot be read.\n",
-    1, {"--pages"},
+    NULL, 1, {"--pages"},
 };
 
 static void explain_numbers(const struct case_file *c)
@@ -78,7 +79,7 @@ static void explain_entry(const struct case_file *c, uint64_t check, const struc
 
 static void explain_instruction(const struct case_file *c)
 {
-    struct text t = fetch_text(c, field_of(c->record, "psw"));
+    struct text t = fetch_text(c, psw_of(c->record));
     char line[SENTENCE], hex[2 * MOST_TEXT + 3] = "";
     unsigned i;
 
@@ -92,7 +93,7 @@ static void explain_instruction(const struct case_file *c)
 /* Returns the exit status. */
 static int explain(const struct case_file *c, const char *name, uint64_t lines)
 {
-    uint64_t check = drevokas_check(c->record, RECORD_BYTES);
+    uint64_t check = drevokas_check(c->record, record_bytes(c->record));
     struct case_file after = *c;
     struct ending unit = run_slice(&after, 1);
     char text[SENTENCE];

@@ -4,13 +4,13 @@
 
 #include "case_file.h"
 
-/* The record's fields up to byte 71, and the results in words. */
+/* The record's fields up to byte 71 and from byte 200 on, and the results in words. */
 void explain_record(const struct case_file *c);
 
-/* The PSW bit by bit. */
+/* The PSW bit by bit, by its form. */
 void explain_psw(const struct case_file *c);
 
-/* CPU timer, clock comparator and guest clock, and what is due. */
+/* CPU timer, clock comparator and guest clock, the interval timer of System/370, and what is due. */
 void explain_timers(const struct case_file *c);
 
 /* Control registers with the bits that the machine uses, and general registers. */

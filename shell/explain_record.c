@@ -2,8 +2,8 @@
 #include <stdio.h>
 
 #include "explain.h"
-#include "fields.h"
 #include "instructions.h"
+#include "interval.h"
 #include "words.h"
 
 #define MEANING 42      /* column from which a field's meaning stands */
@@ -48,15 +48,18 @@ static unsigned code_of(const uint8_t *record)
 
 static void length_words(const uint8_t *record, uint64_t value, char *text)
 {
+    int good = value == RECORD_BYTES || value == MOST_RECORD_BYTES;
+
     (void)record;
     add(text, "%llu byte%s%s", (unsigned long long)value, plural(value),
-        value == 200 ? "" : ": must be 200, so the record is refused (R 1)");
+        good ? "" : ": must be 200 or 208, so the record is refused (R 1)");
 }
 
 static void version_words(const uint8_t *record, uint64_t value, char *text)
 {
-    (void)record;
-    add(text, "version %llu%s", (unsigned long long)value, value == 1 ? "" : ": must be 1, so the record is refused (R 2)");
+    add(text, "version %llu", (unsigned long long)value);
+    if (value != right_version(record))
+        add(text, ": must be %u, so the record is refused (R 2)", right_version(record));
 }
 
 static void intervention_words(const uint8_t *record, uint64_t value, char *text)
@@ -71,13 +74,20 @@ static void intervention_words(const uint8_t *record, uint64_t value, char *text
 
 static void mode_words(const uint8_t *record, uint64_t value, char *text)
 {
-    (void)record;
+    int system370 = is_system370(record);
+
     if ((value & 0x0c) == 0x08)
         add(text, "370-XA (bits 4-5 are 10)");
+    else if (system370)
+        add(text, "System/370 (bits 4-5 are 01)");
+    else if (record_bytes(record) == MOST_RECORD_BYTES)
+        add(text, "neither 370-XA nor System/370 (bits 4-5 are neither 10 nor 01): entry fails");
     else
         add(text, "not 370-XA (bits 4-5 are not 10): entry fails");
     add(text, "; %s", value & 0x02 ? "preferred storage (bit 6 is one): entry fails" : "pageable storage (bit 6 is zero)");
-    add_ignored(text, value & 0xf1);
+    if (system370)
+        add(text, "; interval timer %s", value & 0x01 ? "inactive (bit 7 is one)" : "active (bit 7 is zero)");
+    add_ignored(text, value & (system370 ? 0xf0 : 0xf1));
 }
 
 static void interception_control_words(const uint8_t *record, uint64_t value, char *text)
@@ -221,7 +231,7 @@ static void result_text_words(const uint8_t *record, uint64_t value, char *text)
     char line[128];
 
     if (code_of(record) == 4 || code_of(record) == 44) {
-        disassemble(at, instruction_length(at[0]), line, sizeof line);
+        disassemble(at, instruction_length(at[0]), is_system370(record), line, sizeof line);
         add(text, "instruction text: %s", line);
     } else
         add(text, "instruction text: %s", none_or_meaningless(value));
@@ -231,6 +241,35 @@ static void reserved_words(const uint8_t *record, uint64_t value, char *text)
 {
     (void)record;
     add(text, "%s", value == 0 ? "zero, as it must be" : "must be zero, so the record is refused (R 7)");
+}
+
+/* What the interval timer's fields are for where they are not used; NULL where they are. */
+static const char *unused_words(const uint8_t *record)
+{
+    if (!is_system370(record))
+        return "not used in 370-XA";
+    return interval_active(record) ? NULL : "not used, since the timer is inactive";
+}
+
+static void request_words(const uint8_t *record, uint64_t value, char *text)
+{
+    const char *unused = unused_words(record);
+
+    if (unused != NULL)
+        add(text, "interval-timer request: %s", unused);
+    else
+        add(text, "interval-timer request: T (bit 0) is %s", interval_requested(record) ? "one: see Timers" : "zero");
+    add_ignored(text, value & 0x7f);
+}
+
+static void residue_words(const uint8_t *record, uint64_t value, char *text)
+{
+    const char *unused = unused_words(record);
+
+    if (value >= INTERVAL_PERIOD)
+        add(text, "residue %lu: must be below %u, so the record is refused (R 7)", (unsigned long)value, INTERVAL_PERIOD);
+    else
+        add(text, "residue of the interval timer: %s", unused != NULL ? unused : "see Timers");
 }
 
 static const struct {
@@ -260,17 +299,23 @@ static const struct {
     {"address", address_words},
     {"text", result_text_words},
     {"reserved", reserved_words},
+    {"request", request_words},
+    {"reserved2", reserved_words},
+    {"residue", residue_words},
 };
 
 static void print_field(const struct field *f, const char *hex, const char *words)
 {
     char bytes[16];
+    int width = 5;      /* of the column of bytes; wider places start earlier */
 
     if (f->bytes == 1)
         snprintf(bytes, sizeof bytes, "%u", f->at);
     else
-        snprintf(bytes, sizeof bytes, "%u-%u", f->at, f->at + f->bytes - 1);
-    printf("  %-13s  %-5s  %-16s  ", f->name, bytes, hex);
+        width = snprintf(bytes, sizeof bytes, "%u-%u", f->at, f->at + f->bytes - 1);
+    if (width < 5)
+        width = 5;
+    printf("  %-*s  %-*s  %-16s  ", 18 - width, f->name, width, bytes, hex);
     print_from(MEANING, "%s", words);
 }
 
@@ -284,6 +329,8 @@ void explain_record(const struct case_file *c)
         uint64_t value = get_field(c->record, f);
         char hex[24], text[SENTENCE] = "";
 
+        if (!has_field(c->record, f))
+            continue;
         snprintf(hex, sizeof hex, "%0*llx", (int)(2 * f->bytes), (unsigned long long)value);
         views[i].words(c->record, value, text);
         print_field(f, hex, text);

@@ -1,75 +1,12 @@
-/* PSW, timers and registers. */
+/* Timers and registers. */
 #include <stdio.h>
 
 #include "explain.h"
-#include "fields.h"
+#include "interval.h"
 #include "psw.h"
 #include "words.h"
 
 #define TIMER_WORDS 38      /* column from which the words on a timer stand */
-
-/* ---- PSW ---- */
-
-/* The bits of a PSW before the address: what they are called, and what zero and one mean where it is one bit. */
-static const struct {
-    unsigned from, to;
-    const char *name, *zero, *one;
-} psw_fields[] = {
-    {0, 0, "zero", "as it must be", "must be zero"},
-    {1, 1, "PER", "off", "on: not installed, code 32"},
-    {2, 4, "zero", NULL, NULL},
-    {5, 5, "DAT", "off", "on"},
-    {6, 6, "I/O mask", "disabled", "enabled"},
-    {7, 7, "external mask", "disabled", "enabled"},
-    {8, 11, "access key", NULL, NULL},
-    {12, 12, "one", "must be one", "as it must be"},
-    {13, 13, "machine-check mask", "disabled", "enabled"},
-    {14, 14, "wait", "running", "waiting: code 28"},
-    {15, 15, "problem state", "supervisor state", "problem state"},
-    {16, 16, "address space", "primary", "secondary: not installed, code 32"},
-    {17, 17, "zero", "as it must be", "must be zero"},
-    {18, 19, "condition code", NULL, NULL},
-    {20, 20, "fixed-point-overflow mask", "no exception", "exception 08 hex"},
-    {21, 21, "decimal-overflow mask", "off", "on"},
-    {22, 22, "exponent-underflow mask", "off", "on"},
-    {23, 23, "significance mask", "off", "on"},
-    {24, 31, "zero", NULL, NULL},
-    {32, 32, "addressing mode", "24-bit", "31-bit"},
-};
-
-static void print_psw_field(uint64_t psw, size_t i)
-{
-    unsigned from = psw_fields[i].from, to = psw_fields[i].to, value = psw_bits(psw, from, to);
-    char bits[16];
-
-    if (from == to)
-        snprintf(bits, sizeof bits, "%u", from);
-    else
-        snprintf(bits, sizeof bits, "%u-%u", from, to);
-    printf("  %-5s  %-25s  %3u", bits, psw_fields[i].name, value);
-    if (from == to)
-        printf("  %s", value ? psw_fields[i].one : psw_fields[i].zero);
-    putchar('\n');
-}
-
-void explain_psw(const struct case_file *c)
-{
-    uint64_t psw = field_of(c->record, "psw");
-    const char *wrong = psw_not_installed(psw);
-    size_t i;
-
-    printf("\nPSW %08lx %08lx\n", (unsigned long)(psw >> 32), (unsigned long)(psw & 0xffffffff));
-    printf("  bits   name                     value\n");
-    for (i = 0; i < sizeof psw_fields / sizeof *psw_fields; i++)
-        print_psw_field(psw, i);
-    printf("  33-63  instruction address    %08lx\n", (unsigned long)(psw & 0x7fffffff));
-    if (wrong != NULL)
-        printf("  It cannot be run with: %s (code 32).\n", wrong);
-    else if ((wrong = psw_malformed(psw)) != NULL)
-        printf("  It is malformed: %s (specification exception, ILC 0).\n", wrong);
-    else
-        printf("  It is well formed.\n");
-}
 
 /* ---- timers ---- */
 
@@ -89,6 +26,63 @@ static void print_due(const struct case_file *c, const char *time, int due, unsi
         print_from(TIMER_WORDS, "%s: due, and enabled by PSW bit 7 and CR0 bit %u: code 20", time, mask_bit);
 }
 
+/* The word at real 80, and whether a fall would find it. Its place is known where entry is good. */
+static void print_interval_word(const struct case_file *c)
+{
+    struct interval_place i = interval_place(c);
+    char hex[16] = "", time[SENTENCE], fault[SENTENCE] = "";
+
+    interval_words(i.word, time, sizeof time);
+    if (i.is_there)
+        snprintf(hex, sizeof hex, "%08lx", (unsigned long)i.word);
+    printf("%-16s  ", hex);
+    if (i.code != 0)
+        snprintf(fault, sizeof fault, "host fault %02x hex, %s, at %08lx", i.code, program_words(i.code),
+                 (unsigned long)i.host);
+    if (!i.is_there)
+        print_from(TIMER_WORDS, "the word at real %08x is not backed: its next fall is %s", INTERVAL_REAL, fault);
+    else if (i.code != 0)
+        print_from(TIMER_WORDS, "%s, the word at real %08x; its next fall is %s", time, INTERVAL_REAL, fault);
+    else
+        print_from(TIMER_WORDS, "%s, the word at real %08x", time, INTERVAL_REAL);
+}
+
+/* The residue, in thirds of a clock unit, of which 1/300 second has as many as INTERVAL_PERIOD. */
+static void print_residue(const struct case_file *c)
+{
+    unsigned long residue = (unsigned long)field_of(c->record, "residue");
+
+    printf("  residue           %-16lu  ", residue);
+    if (residue >= INTERVAL_PERIOD)
+        print_from(TIMER_WORDS, "thirds of a clock unit, and must be below %u (R 7)", INTERVAL_PERIOD);
+    else
+        print_from(TIMER_WORDS, "thirds of a clock unit; at %u the word falls by 256", INTERVAL_PERIOD);
+}
+
+/* The interval timer of a System/370 guest. */
+static void explain_interval(const struct case_file *c)
+{
+    char text[SENTENCE];
+
+    printf("  interval timer    ");
+    if (!interval_active(c->record)) {
+        printf("%-16s  ", "");
+        print_from(TIMER_WORDS, "inactive (mode bit 7 is one): word, residue and T are not used");
+        return;
+    }
+    if (entry_sentence(c->record, text, sizeof text)) {
+        printf("%-16s  ", "");
+        print_from(TIMER_WORDS, "the word at real %08x has no place, since there is no entry", INTERVAL_REAL);
+    } else
+        print_interval_word(c);
+    print_residue(c);
+    if (interval_requested(c->record)) {
+        printf("  T                 1                 ");
+        print_due(c, "interruption requested", 1, 24);
+    } else
+        printf("  T                 0                 no interruption requested\n");
+}
+
 void explain_timers(const struct case_file *c)
 {
     uint64_t timer = field_of(c->record, "timer"), comparator = field_of(c->record, "comparator");
@@ -105,6 +99,8 @@ void explain_timers(const struct case_file *c)
     microseconds(0, comparator, time, sizeof time);
     printf("  clock comparator  %016llx  ", (unsigned long long)comparator);
     print_due(c, time, clock > comparator, 20);
+    if (is_system370(c->record))
+        explain_interval(c);
 }
 
 /* ---- registers ---- */
@@ -153,15 +149,20 @@ static void print_bit(unsigned long cr0, unsigned bit, const char *name, const c
 void explain_registers(const struct case_file *c)
 {
     unsigned long cr0 = (unsigned long)field_of(c->record, "cr0"), cr1 = (unsigned long)field_of(c->record, "cr1");
+    int system370 = is_system370(c->record);
 
     printf("\nControl registers\n");
     print_sixteen(c, "cr");
     print_bit(cr0, 3, "low-address protection", "off", "on");
-    print_format(cr0);
+    if (!system370)
+        print_format(cr0);
     print_bit(cr0, 20, "clock comparator interruption", "disabled", "enabled");
     print_bit(cr0, 21, "CPU timer interruption", "disabled", "enabled");
-    printf("  cr1                   guest segment table at real %08lx, length %lu: %lu segments of 1 MiB\n", cr1 & 0x7ffff000,
-           cr1 & 0x7f, ((cr1 & 0x7f) + 1) * 16);
+    if (system370)
+        print_bit(cr0, 24, "interval timer interruption", "disabled", "enabled");
+    else
+        printf("  cr1                   guest segment table at real %08lx, length %lu: %lu segments of 1 MiB\n",
+               cr1 & 0x7ffff000, cr1 & 0x7f, ((cr1 & 0x7f) + 1) * 16);
     printf("\nGeneral registers\n");
     print_sixteen(c, "gr");
 }

@@ -4,14 +4,13 @@
 #include <string.h>
 
 #include "../include/drevokas.h"
-#include "psw.h"
 #include "words.h"
 
 /* The byte that is i bytes into the instruction. Returns 0 if it was fetched. */
 static int fetch_byte(const struct case_file *c, struct text *t, unsigned i)
 {
-    t->answer = drevokas_translate(c->record, RECORD_BYTES, c->storage, (size_t)c->frames * FRAME_BYTES, c->keys, c->frames,
-                                   c->designation, psw_address(t->psw) + i, DREVOKAS_INSTRUCTION_FETCH, &t->where);
+    t->answer = drevokas_translate(c->record, record_bytes(c->record), c->storage, (size_t)c->frames * FRAME_BYTES, c->keys,
+                                   c->frames, c->designation, psw_address(t->psw) + i, DREVOKAS_INSTRUCTION_FETCH, &t->where);
     if (drevokas_kind(t->answer) != DREVOKAS_GOOD)
         return -1;
     t->bytes[i] = c->storage[t->where];
@@ -19,14 +18,16 @@ static int fetch_byte(const struct case_file *c, struct text *t, unsigned i)
     return 0;
 }
 
-struct text fetch_text(const struct case_file *c, uint64_t psw)
+struct text fetch_text(const struct case_file *c, struct psw psw)
 {
     struct text t;
 
     memset(&t, 0, sizeof t);
     t.psw = psw;
-    if (fetch_byte(c, &t, 0) != 0)
+    if (fetch_byte(c, &t, 0) != 0) {
+        t.no_entry = drevokas_kind(drevokas_check(c->record, record_bytes(c->record))) == DREVOKAS_INTERCEPTED;
         return t;
+    }
     if (psw_address(t.psw) % 2 != 0) {
         t.fetched = 0;
         return t;
@@ -57,7 +58,7 @@ static void missing_words(const struct text *t, char *line, size_t room)
                  (unsigned long)t->where);
         break;
     case DREVOKAS_INTERCEPTED:
-        snprintf(line, room, "(not fetched: entry fails)");
+        snprintf(line, room, "(not fetched: %s)", t->no_entry ? "entry fails" : "PSW " DAT_NOT_INSTALLED);
         break;
     default:
         snprintf(line, room, "(not fetched: refused)");
@@ -68,7 +69,7 @@ static void missing_words(const struct text *t, char *line, size_t room)
 void text_words(const struct text *t, char *line, size_t room)
 {
     if (is_whole(t))
-        disassemble(t->bytes, t->length, line, room);
+        disassemble(t->bytes, t->length, t->psw.system370, line, room);
     else if (psw_address(t->psw) % 2 != 0)
         snprintf(line, room, "(not fetched: exception 06 hex, specification, since the address is odd)");
     else
@@ -77,13 +78,13 @@ void text_words(const struct text *t, char *line, size_t room)
 
 void text_column(const struct text *t, char *line, size_t room)
 {
-    if (drevokas_kind(t->answer) == DREVOKAS_INTERCEPTED)
+    if (t->no_entry)
         snprintf(line, room, "(no entry)");
     else if (psw_not_installed(t->psw) != NULL)
         snprintf(line, room, "(PSW not installed)");
     else if (psw_malformed(t->psw) != NULL)
         snprintf(line, room, "(PSW malformed)");
-    else if (psw_bits(t->psw, 14, 14))
+    else if (psw_bits(t->psw.bits, 14, 14))
         snprintf(line, room, "(wait state)");
     else if (psw_address(t->psw) % 2 != 0)
         snprintf(line, room, "(odd address)");

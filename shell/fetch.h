@@ -4,17 +4,19 @@
 
 #include "case_file.h"
 #include "instructions.h"
+#include "psw.h"
 
 struct text {
-    uint64_t psw;               /* that it was fetched by */
+    struct psw psw;             /* that it was fetched by */
     uint8_t bytes[MOST_TEXT];
     unsigned fetched;           /* bytes that were fetched */
     unsigned length;            /* bytes of the instruction; 0 if the first halfword was not fetched */
     uint64_t answer, where;     /* the library's answer for the last byte that was asked for */
+    int no_entry;               /* entry fails, so nothing is fetched */
 };
 
 /* The instruction at this PSW, which differs from the case file's in the address at most. */
-struct text fetch_text(const struct case_file *c, uint64_t psw);
+struct text fetch_text(const struct case_file *c, struct psw psw);
 
 /* Whether all of the instruction is there. */
 int is_whole(const struct text *t);

@@ -7,8 +7,8 @@
 #define GENERAL(n) {"gr" #n, 136 + 4 * n, 4, "general register " #n}
 
 const struct field record_fields[] = {
-    {"length", 0, 2, "length of the record, 200"},
-    {"version", 2, 1, "version of the record, 1"},
+    {"length", 0, 2, "length of the record, 200 or 208"},
+    {"version", 2, 1, "version of the record, 1 or 2"},
     {"interventions", 3, 1, "intervention requests"},
     {"mode", 4, 1, "mode"},
     {"interceptions", 5, 1, "interception controls"},
@@ -62,6 +62,9 @@ const struct field record_fields[] = {
     GENERAL(13),
     GENERAL(14),
     GENERAL(15),
+    {"request", 200, 1, "interval-timer request: bit 0 is T"},
+    {"reserved2", 201, 3, "zero"},
+    {"residue", 204, 4, "residue of the interval timer"},
 };
 
 const unsigned record_field_count = sizeof record_fields / sizeof *record_fields;
@@ -104,6 +107,21 @@ uint64_t get_field(const uint8_t *record, const struct field *f)
 uint64_t field_of(const uint8_t *record, const char *name)
 {
     return get_field(record, find_field(name));
+}
+
+unsigned record_bytes(const uint8_t *record)
+{
+    return field_of(record, "length") == MOST_RECORD_BYTES ? MOST_RECORD_BYTES : RECORD_BYTES;
+}
+
+int is_system370(const uint8_t *record)
+{
+    return record_bytes(record) == MOST_RECORD_BYTES && (field_of(record, "mode") & 0x0c) == 0x04;
+}
+
+int has_field(const uint8_t *record, const struct field *f)
+{
+    return f->at < record_bytes(record);
 }
 
 int put_field(uint8_t *record, const struct field *f, uint64_t value)

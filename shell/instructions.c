@@ -49,6 +49,13 @@ static const struct instruction instructions[] = {
     {"STCK", 0xB205, S, ACCESS},
     {"SPT", 0xB208, S, ACCESS},
     {"STPT", 0xB209, S, ACCESS},
+    {"SIO", 0x9C00, S, NO_ACCESS},
+    {"SIOF", 0x9C01, S, NO_ACCESS},
+    {"TIO", 0x9D00, S, NO_ACCESS},
+    {"CLRIO", 0x9D01, S, NO_ACCESS},
+    {"HIO", 0x9E00, S, NO_ACCESS},
+    {"HDV", 0x9E01, S, NO_ACCESS},
+    {"TCH", 0x9F00, S, NO_ACCESS},
 };
 
 #define INSTRUCTIONS (sizeof instructions / sizeof *instructions)
@@ -68,6 +75,12 @@ static const struct {
 unsigned instruction_length(uint8_t first)
 {
     return first < 0x40 ? 2 : first < 0xC0 ? 4 : 6;
+}
+
+/* Whether an instruction with this first byte is one of System/370's channels. */
+static int is_of_channels(unsigned first)
+{
+    return first >= 0x9C && first <= 0x9F;
 }
 
 static const struct instruction *by_opcode(unsigned opcode)
@@ -110,6 +123,14 @@ unsigned length_of_named(const char *name, size_t length)
     const struct instruction *i = by_name(name, length, &mask);
 
     return i ? opcode_length(i) : 0;
+}
+
+int is_channel_name(const char *name, size_t length)
+{
+    unsigned mask;
+    const struct instruction *i = by_name(name, length, &mask);
+
+    return i != NULL && is_of_channels(i->opcode >> 8);
 }
 
 void list_instructions(char *line, size_t room)
@@ -156,16 +177,18 @@ static void show_based(const uint8_t *text, char *operand, size_t room)
 }
 
 /* The instruction of a text of length bytes; NULL if it is not listed, or not whole. */
-static const struct instruction *of_text(const uint8_t *text, size_t length)
+static const struct instruction *of_text(const uint8_t *text, size_t length, int system370)
 {
     if (length == 0 || length < instruction_length(text[0]))
         return NULL;
-    return by_opcode(text[0] == 0xB2 ? 0xB200u | text[1] : text[0]);
+    if (text[0] == 0xB2 || (system370 && is_of_channels(text[0])))
+        return by_opcode((unsigned)text[0] << 8 | text[1]);
+    return by_opcode(text[0]);
 }
 
 int operand_address(const uint8_t *text, size_t length, const uint32_t registers[16], uint32_t *address)
 {
-    const struct instruction *i = of_text(text, length);
+    const struct instruction *i = of_text(text, length, 0);
     unsigned index, base;
 
     if (i == NULL || i->access == NO_ACCESS)
@@ -180,9 +203,9 @@ int operand_address(const uint8_t *text, size_t length, const uint32_t registers
     return 1;
 }
 
-void disassemble(const uint8_t *text, size_t length, char *line, size_t room)
+void disassemble(const uint8_t *text, size_t length, int system370, char *line, size_t room)
 {
-    const struct instruction *i = of_text(text, length);
+    const struct instruction *i = of_text(text, length, system370);
     char operand[32] = "";
     unsigned first, second;
 

@@ -11,8 +11,9 @@
 unsigned instruction_length(uint8_t first);
 
 /* Writes the instruction at text (of length bytes, at least instruction_length's for its first byte; otherwise it is shown as
-   data) in assembler: "AR    1,2", "BC    15,X'200'(1,2)"; an opcode that is not listed is shown as "DC    X'...'". */
-void disassemble(const uint8_t *text, size_t length, char *line, size_t room);
+   data) in assembler: "AR    1,2", "BC    15,X'200'(1,2)"; an opcode that is not listed is shown as "DC    X'...'". Those of
+   channels, 9C to 9F hex, are listed for System/370 only. */
+void disassemble(const uint8_t *text, size_t length, int system370, char *line, size_t room);
 
 /* The address of the storage operand with these general registers, not yet wrapped by the addressing mode. Returns 0 if the
    text (of length bytes) is not a whole listed instruction with such an operand. */

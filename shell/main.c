@@ -35,7 +35,7 @@ static void print_usage(FILE *to)
 
 static int print_version(void)
 {
-    printf("drevokas %s\nrecord version %u, case file version %u\n", DREVOKAS_VERSION, DREVOKAS_RECORD_VERSION, FILE_VERSION);
+    printf("drevokas %s\nrecord versions 1 and 2, case file version %u\n", DREVOKAS_VERSION, FILE_VERSION);
     return finished(STATUS_GOOD);
 }
 

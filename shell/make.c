@@ -35,11 +35,20 @@ static const char help[] =
     "  frames = N         frames of host storage, 1 to 8 (8)\n"
     "  FIELD = N          a field of the record: length (200) version (1) interventions mode (8)\n"
     "                     interceptions lctl prefix origin extent (1) psw timer comparator epoch svc svc1\n"
-    "                     svc2 svc3 code ilc interruption address text reserved, cr0-cr15, gr0-gr15 (0)\n"
+    "                     svc2 svc3 code ilc interruption address text reserved, cr0-cr15, gr0-gr15 (0);\n"
+    "                     with length 208 (version 2) also request reserved2 residue (0)\n"
     "  FIELD.bitN = N     one bit of a field: cr0.bit21 = 1\n"
     "  psw.PART = N       a part of the PSW: per dat io external key check wait problem space cc mask\n"
     "                     address, and amode, 24 or 31 (bit 12 is one, amode is 31, all else zero)\n"
     "  key F[-F] = N      storage keys of frames (0)\n"
+    "  mode.system = 370  a System/370 guest, in the record of 208 bytes; xa: a 370-XA guest\n"
+    "  mode.inactive = 1  its interval timer is inactive; request.t = 1: its interruption is requested\n"
+    "  interval = N       the interval timer's word, at guest real 80, by the prefix and the page map\n"
+    "A System/370 PSW is in BC form, of zeros, and has the parts channels (of 6 bits) channel0-channel5\n"
+    "io external key ec check wait problem code ilc cc mask address. With ec = 1 it is in EC form: per\n"
+    "dat io external key ec check wait problem space cc mask address.\n";
+
+static const char help_on_lines[] =
     "\n"
     "Page maps, in any order; A is the first address of a page, B the last of that page or a later one\n"
     "  host tables at frame F     makes the host's tables from frame F on, and the designation\n"
@@ -59,8 +68,9 @@ static const char help[] =
     "  at virtual A               or guest virtual address, by the guest's tables,\n"
     "  at frame F [OFFSET]        or into a frame itself, where labels cannot be\n"
     "  [LABEL] INSTRUCTION OPERANDS\n"
-    "      LR AR SR BCR SVC LA BC ST L LPSW STCTL LCTL STCK SPT STPT DIAG SIGP, and the extended\n"
-    "      branches B BR NOP NOPR BE BNE BH BL BO BP BM BZ BER ...\n"
+    "      LR AR SR BCR SVC LA BC ST L LPSW STCTL LCTL STCK SPT STPT DIAG SIGP, those of System/370's\n"
+    "      channels SIO SIOF TIO CLRIO HIO HDV TCH, and the extended branches B BR NOP NOPR BE BNE BH BL\n"
+    "      BO BP BM BZ BER ...\n"
     "  [LABEL] bytes X'0102 03'   bytes in hex; also written DC\n"
     "  [LABEL] half N,...         numbers of 2 bytes; word: of 4; double: of 8\n"
     "  [LABEL] psw PART=N, ...    a PSW of 8 bytes: psw dat=1, address=start\n"
@@ -74,7 +84,7 @@ static const char help[] =
     "Exit status: 0, 1 if CASE is not a case file, 2 for bad usage, an error in the text, or a file that\n"
     "cannot be read or written.\n";
 
-static const struct usage usage = {"make TEXT [--from CASE] [-o OUT]", help, 1, {"-o", "--from"}};
+static const struct usage usage = {"make TEXT [--from CASE] [-o OUT]", help, help_on_lines, 1, {"-o", "--from"}};
 
 /* ---- errors ---- */
 

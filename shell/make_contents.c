@@ -2,6 +2,7 @@
 #include <string.h>
 
 #include "assembler.h"
+#include "interval.h"
 #include "text_form.h"
 
 #define MOST_CONTENT (4 * MOST_LINE_LENGTH)    /* the shortest text for its bytes: "1," for a doubleword */
@@ -138,7 +139,7 @@ static int encode(struct text_form *f, const struct line *l, uint8_t *bytes, str
     case NUMBERS:
         return parse_numbers(at, &labels, d->bytes, bytes, m);
     case PSW_DATA:
-        if (parse_psw(at, &labels, &psw, m))
+        if (parse_psw(at, is_system370(f->c.record), &labels, &psw, m))
             return -1;
         put_number(bytes, PSW_BYTES, psw);
         return 0;
@@ -206,6 +207,18 @@ static int apply_line(struct text_form *f, unsigned line, int put, struct messag
     return put ? put_contents(f, line, l->place, is_space ? NULL : bytes, l->length, m) : 0;
 }
 
+/* The word of the interval timer, which a setting gives. */
+static int put_interval(struct text_form *f, struct message *m)
+{
+    struct place p = {IN_REAL, INTERVAL_REAL};
+    uint8_t bytes[4];
+
+    if (!is_system370(f->c.record))
+        return wrong(m, "interval is the word of System/370's interval timer; add \"mode.system = 370\"");
+    put_number(bytes, sizeof bytes, f->interval);
+    return put_contents(f, f->interval_line, p, bytes, sizeof bytes, m);
+}
+
 void apply_contents(struct text_form *f)
 {
     int put = f->fault_count == 0;
@@ -215,4 +228,6 @@ void apply_contents(struct text_form *f)
     for (line = 1; line <= f->count && !enough_faults(f); line++)
         if (apply_line(f, line, put, &m))
             note_fault(f, line, &m);
+    if (put && f->interval_line != 0 && put_interval(f, &m))
+        note_fault(f, f->interval_line, &m);
 }

@@ -208,13 +208,22 @@ static int check_place(const struct place *here, unsigned alignment, struct mess
     return 0;
 }
 
+/* Whether the first word is a label though it names an instruction of channels: an operation follows it. */
+static int is_label_all_the_same(const char *text, size_t length)
+{
+    unsigned bytes, alignment;
+    struct message unused;
+
+    return is_channel_name(text, length) && measure(skip_blanks(text + length), &bytes, &alignment, &unused) != 0;
+}
+
 /* An instruction or data, perhaps with a label. */
 static int sort_content(struct text_form *f, unsigned line, struct place *here, struct message *m)
 {
     struct line *l = &f->lines[line - 1];
     size_t length = name_length(l->text);
     unsigned alignment = 1;
-    int operation = measure(l->text, &l->length, &alignment, m);
+    int operation = is_label_all_the_same(l->text, length) ? 0 : measure(l->text, &l->length, &alignment, m);
 
     if (operation == 0) {
         l->label = l->text;

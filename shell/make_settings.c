@@ -3,19 +3,15 @@
 #include <string.h>
 
 #include "text_form.h"
+#include "words.h"
 
-#define MOST_NAME (MOST_LINE_LENGTH + 1)
-#define BLANK_PSW UINT64_C(0x0008000080000000)     /* bit 12 and bit 32 (31-bit addresses) */
-#define PSW_BITS 64u
-
-/* The parts of a PSW; amode is apart, for its values are 24 and 31. */
-static const struct part {
-    const char *name;
-    unsigned first, bits;
-} psw_parts[] = {
-    {"per", 1, 1},    {"dat", 5, 1},      {"io", 6, 1},     {"external", 7, 1}, {"key", 8, 4},   {"check", 13, 1},
-    {"wait", 14, 1},  {"problem", 15, 1}, {"space", 16, 1}, {"cc", 18, 2},      {"mask", 20, 4}, {"amode", 32, 1},
-    {"address", 33, 31},
+/* Settings are applied in this order, whatever that of their lines: what comes first decides what a later one means. */
+enum stage {
+    WHOLES,     /* whole fields, and numbers beside the record */
+    MODES,      /* parts of the mode, which have the record's size and the PSW's system in them */
+    FORMS,      /* bit 12 of a System/370 PSW */
+    PARTS,      /* all other parts */
+    STAGES
 };
 
 /* The numbers beside the record, by their kinds. */
@@ -24,131 +20,9 @@ static const struct {
     unsigned bits;
 } numbers[NUMBER_KINDS] = {{"designation", 32}, {"clock", 64}, {"time", 32}, {"budget", 16}, {"frames", 32}};
 
-/* The setting's name in small letters, which is no longer than a line; returns where the value starts. */
-static const char *split_setting(const char *text, char name[MOST_NAME])
-{
-    size_t length = name_length(text), i;
-
-    for (i = 0; i < length; i++)
-        name[i] = (char)(text[i] >= 'A' && text[i] <= 'Z' ? text[i] + ('a' - 'A') : text[i]);
-    name[i] = '\0';
-    return skip_blanks(text + length) + 1;
-}
-
-/* Whether the field or part of this name is an address. */
-static int is_address(const char *name)
-{
-    return strcmp(name, "prefix") == 0 || strcmp(name, "address") == 0;
-}
-
-/* The value of what has this name, in so many bits. */
-static int parse_value(const char **at, const struct labels *labels, const char *name, unsigned bits, uint64_t *n,
-                       struct message *m)
-{
-    struct value v;
-
-    if (is_address(name) ? parse_address_expression(at, labels, &v, m) : parse_expression(at, labels, &v, m))
-        return -1;
-    return value_in_bits(&v, bits, n, m);
-}
-
 static int set_twice(unsigned line, struct message *m)
 {
     return wrong(m, "this is set in line %u already; leave one of the lines out", line);
-}
-
-/* ---- bits and parts ---- */
-
-/* Sets bits of a word of `width` bits; bit 0 is the leftmost. */
-static void set_bits(uint64_t *word, unsigned width, unsigned first, unsigned bits, uint64_t n)
-{
-    unsigned shift = width - first - bits;
-    uint64_t ones = (UINT64_C(1) << bits) - 1;
-
-    *word = (*word & ~(ones << shift)) | (n & ones) << shift;
-}
-
-/* "bit21" in a word of `width` bits; the digits are decimal. Returns 0, or -1. */
-static int parse_bit_name(const char *name, unsigned width, unsigned *bit)
-{
-    uint64_t n;
-    struct message unused;
-    const char *at;
-
-    if (strncmp(name, "bit", 3) != 0)
-        return -1;
-    at = name + 3;
-    if (at[strspn(at, "0123456789")] != '\0' || parse_count(&at, "", width - 1, &n, &unused))
-        return -1;
-    *bit = (unsigned)n;
-    return 0;
-}
-
-/* A bit by its number, or a part of the PSW by its name. */
-static int find_part(const char *name, int is_psw, unsigned width, struct part *part)
-{
-    size_t i;
-
-    part->name = name;
-    part->bits = 1;
-    if (parse_bit_name(name, width, &part->first) == 0)
-        return 0;
-    for (i = 0; is_psw && i < sizeof psw_parts / sizeof *psw_parts; i++)
-        if (strcmp(psw_parts[i].name, name) == 0) {
-            *part = psw_parts[i];
-            return 0;
-        }
-    return -1;
-}
-
-static int parse_part(const char **at, const struct labels *labels, const struct part *part, uint64_t *n, struct message *m)
-{
-    if (strcmp(part->name, "amode") != 0)
-        return parse_value(at, labels, part->name, part->bits, n, m);
-    if (parse_value(at, NULL, part->name, PSW_BITS, n, m))
-        return -1;
-    if (*n != 24 && *n != 31)
-        return wrong(m, "amode is 24 or 31, the bits of an address");
-    *n = *n == 31;
-    return 0;
-}
-
-static int no_part(const char *field, const char *part, unsigned width, struct message *m)
-{
-    if (strcmp(field, "psw") == 0)
-        return wrong(m, "the PSW has no part \"%.40s\"; parts are per dat io external key check wait problem space cc mask "
-                     "amode address, and bit0 to bit63", part);
-    return wrong(m, "the field %s has no part \"%.40s\"; its parts are bit0 to bit%u", field, part, width - 1);
-}
-
-int parse_psw(const char *at, const struct labels *labels, uint64_t *psw, struct message *m)
-{
-    struct part part;
-    char name[MOST_NAME];
-    uint64_t n, ones, given = 0;
-
-    *psw = BLANK_PSW;
-    at = skip_blanks(at);
-    if (*at == '\0')
-        return 0;
-    for (;;) {
-        if (name_length(at) == 0 || *skip_blanks(at + name_length(at)) != '=')
-            return wrong(m, "\"%.20s\" is not NAME=VALUE; write a PSW as \"psw dat=1, address=start\"", at);
-        at = split_setting(at, name);
-        if (find_part(name, 1, PSW_BITS, &part))
-            return no_part("psw", name, PSW_BITS, m);
-        if (parse_part(&at, labels, &part, &n, m))
-            return -1;
-        ones = 0;
-        set_bits(&ones, PSW_BITS, part.first, part.bits, UINT64_MAX);
-        if (given & ones)
-            return wrong(m, "%.40s, or a bit of it, is given twice in this PSW; leave one out", name);
-        given |= ones;
-        set_bits(psw, PSW_BITS, part.first, part.bits, n);
-        if (*skip_blanks(at) != ',')
-            return nothing_left(at, m);
-        at = skip_blanks(skip_blanks(at) + 1);
-    }
 }
 
 /* ---- one setting ---- */
@@ -242,23 +116,50 @@ static int apply_part(struct text_form *f, const struct field *field, const char
     uint64_t word = get_field(f->c.record, field), n;
     struct part part;
 
-    if (find_part(name, strcmp(field->name, "psw") == 0, width, &part))
-        return no_part(field->name, name, width, m);
+    if (find_part(field->name, psw_form(psw_of(f->c.record)), name, width, &part))
+        return no_part(field->name, psw_form(psw_of(f->c.record)), name, width, m);
     if (take_bits(f, field, &part, line, m) || parse_part(&at, &labels, &part, &n, m) || nothing_left(at, m))
         return -1;
     set_bits(&word, width, part.first, part.bits, n);
     put_field(f->c.record, field, word);
+    if (strcmp(part.name, "system") == 0 && n == SYSTEM_370)
+        f->system_line = line;
     return 0;
+}
+
+/* interval = WORD; it goes into storage with the contents. */
+static int apply_interval(struct text_form *f, const char *at, unsigned line, struct message *m)
+{
+    struct labels labels = labels_of(f);
+
+    if (f->interval_line != 0)
+        return set_twice(f->interval_line, m);
+    f->interval_line = line;
+    return parse_value(&at, &labels, "interval", 32, &f->interval, m) || nothing_left(at, m) ? -1 : 0;
 }
 
 static int no_name(const char *name, struct message *m)
 {
-    return wrong(m, "there is nothing named \"%.40s\" to set; names are designation clock time budget frames, the record's "
-                 "fields (length version ... cr0 gr0), psw.NAME and FIELD.bitN: see drevokas make --help", name);
+    return wrong(m, "there is nothing named \"%.40s\" to set; names are designation clock time budget frames interval, the "
+                 "record's fields (length version ... cr0 gr0), psw.NAME and FIELD.bitN: see drevokas make --help", name);
 }
 
-/* Applies a setting if it is a whole (parts 0) or a part (parts 1). */
-static int apply_setting(struct text_form *f, unsigned line, int parts, struct message *m)
+/* The stage of a setting; part is NULL for a whole. */
+static enum stage stage_of(const struct text_form *f, const char *field, const char *part)
+{
+    struct part found;
+
+    if (part == NULL)
+        return WHOLES;
+    if (strcmp(field, "mode") == 0)
+        return MODES;
+    if (strcmp(field, "psw") != 0 || !is_system370(f->c.record))
+        return PARTS;
+    return find_part(field, EC_PSW, part, PSW_BITS, &found) == 0 && gives_form(&found) ? FORMS : PARTS;
+}
+
+/* Applies a setting if it is one of this stage. */
+static int apply_setting(struct text_form *f, unsigned line, enum stage stage, struct message *m)
 {
     char name[MOST_NAME];
     const char *at = split_setting(f->lines[line - 1].text, name);
@@ -266,10 +167,10 @@ static int apply_setting(struct text_form *f, unsigned line, int parts, struct m
     const struct field *field;
     int result;
 
-    if ((dot != NULL) != parts)
-        return 0;
     if (dot != NULL)
         *dot = '\0';
+    if (stage_of(f, name, dot != NULL ? dot + 1 : NULL) != stage)
+        return 0;
     field = find_field(name);
     if (field != NULL)
         return dot != NULL ? apply_part(f, field, dot + 1, at, line, m) : apply_field(f, field, at, line, m);
@@ -277,6 +178,8 @@ static int apply_setting(struct text_form *f, unsigned line, int parts, struct m
         *dot = '.';
         return no_name(name, m);
     }
+    if (strcmp(name, "interval") == 0)
+        return apply_interval(f, at, line, m);
     result = apply_number(f, name, at, line, m);
     return result == 0 ? no_name(name, m) : result < 0 ? -1 : 0;
 }
@@ -317,32 +220,86 @@ static void set_defaults(struct case_file *c)
     c->budget = 65535;
     c->frames = MOST_FRAMES;
     put_field(c->record, find_field("length"), RECORD_BYTES);
-    put_field(c->record, find_field("version"), 1);
+    put_field(c->record, find_field("version"), right_version(c->record));
     put_field(c->record, find_field("mode"), 8);
     put_field(c->record, find_field("extent"), 1);
     put_field(c->record, find_field("psw"), BLANK_PSW);
 }
 
-/* Applies the settings that are wholes, or those that are parts. */
-static void apply_all(struct text_form *f, int parts)
+/* Whether a line of the text gives the whole of this field. */
+static int is_given(const struct text_form *f, const char *name)
+{
+    return f->field_lines[find_field(name)->at] != 0;
+}
+
+/* Once the mode is known: System/370 that is asked for by name takes the larger record, the version goes with a size that the
+   text changes, and a new PSW of System/370 is one of zeros, unless lines say otherwise. */
+static void settle_record(struct text_form *f)
+{
+    uint8_t *record = f->c.record;
+    unsigned before = f->from_file ? record_bytes(f->old.record) : RECORD_BYTES;
+
+    if (f->system_line != 0 && !is_given(f, "length"))
+        put_field(record, find_field("length"), MOST_RECORD_BYTES);
+    if (record_bytes(record) != before && !is_given(f, "version"))
+        put_field(record, find_field("version"), right_version(record));
+    if (!f->from_file && is_system370(record) && !is_given(f, "psw"))
+        put_field(record, find_field("psw"), 0);
+}
+
+/* A line that gives this field, or a bit of it; 0 is none. */
+static unsigned line_of(const struct text_form *f, const struct field *field)
+{
+    unsigned line = f->field_lines[field->at], bit;
+
+    for (bit = 0; line == 0 && bit < 8 * field->bytes; bit++)
+        line = f->bit_lines[8 * field->at + bit];
+    return line;
+}
+
+/* The fields that a record of 200 bytes has not are zeros, and lines that give them are wrong. */
+static void clear_missing(struct text_form *f)
+{
+    struct message m;
+    unsigned i;
+
+    for (i = 0; i < record_field_count; i++) {
+        const struct field *field = &record_fields[i];
+
+        if (has_field(f->c.record, field))
+            continue;
+        memset(f->c.record + field->at, 0, field->bytes);
+        wrong(&m, "%s is a field of the record of 208 bytes; add \"mode.system = 370\" or \"length = 208\"", field->name);
+        if (line_of(f, field) != 0)
+            note_fault(f, line_of(f, field), &m);
+    }
+}
+
+/* Applies the settings of one stage. */
+static void apply_all(struct text_form *f, enum stage stage)
 {
     struct message m;
     unsigned line;
 
     for (line = 1; line <= f->count && !enough_faults(f); line++)
-        if (f->lines[line - 1].kind == SETTING_LINE && apply_setting(f, line, parts, &m))
+        if (f->lines[line - 1].kind == SETTING_LINE && apply_setting(f, line, stage, &m))
             note_fault(f, line, &m);
 }
 
 void apply_settings(struct text_form *f)
 {
+    enum stage stage;
     struct message m;
     unsigned line;
 
     if (!f->from_file)
         set_defaults(&f->c);
-    apply_all(f, 0);
-    apply_all(f, 1);
+    for (stage = WHOLES; stage < STAGES; stage++) {
+        apply_all(f, stage);
+        if (stage == MODES)
+            settle_record(f);
+    }
+    clear_missing(f);
     for (line = 1; line <= f->count && !enough_faults(f); line++)
         if (f->lines[line - 1].kind == KEY_LINE && apply_key(f, f->lines[line - 1].text, &m))
             note_fault(f, line, &m);

@@ -16,7 +16,7 @@ struct ending run_slice(struct case_file *c, uint32_t units)
     uint64_t answer;
 
     e.where = 0;
-    answer = drevokas_run(c->record, RECORD_BYTES, c->storage, (size_t)c->frames * FRAME_BYTES, c->keys, c->frames,
+    answer = drevokas_run(c->record, record_bytes(c->record), c->storage, (size_t)c->frames * FRAME_BYTES, c->keys, c->frames,
                           c->designation, c->clock, c->time, units, &e.where);
     e.kind = drevokas_kind(answer);
     e.number = drevokas_number(answer);

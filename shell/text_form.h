@@ -1,16 +1,16 @@
 /*
  * The text form of a case file, as `make` takes it apart. First every line is sorted by its kind, and the labels get their
- * addresses (make_lines.c); then settings (make_settings.c), page maps (make_maps.c), their tables (new ones in make_tables.c,
- * entries of those that are there in make_changes.c) and contents (make_contents.c) are worked out, so that no line has to
- * stand before another one, but for contents, which follow their `at`. Tables and contents go into storage through the page
- * maps (make_storage.c).
+ * addresses (make_lines.c); then settings (make_settings.c, parts of fields in make_parts.c), page maps (make_maps.c), their
+ * tables (new ones in make_tables.c, entries of those that are there in make_changes.c) and contents (make_contents.c) are
+ * worked out, so that no line has to stand before another one, but for contents, which follow their `at`. Tables and contents
+ * go into storage through the page maps (make_storage.c).
  */
 #ifndef TEXT_FORM_H
 #define TEXT_FORM_H
 
 #include "case_file.h"
 #include "expression.h"
-#include "fields.h"
+#include "psw.h"
 #include "walk.h"
 
 #define MOST_TEXT_BYTES (1u << 20)
@@ -22,6 +22,12 @@
 #define PAGES (1u << 19)
 #define BLOCK_PAGES 16u                         /* in a block of 64 KiB, the origin's unit */
 #define REGISTERS 16u
+#define MOST_NAME (MOST_LINE_LENGTH + 1)
+#define PSW_BITS 64u
+#define FORM_BIT 12u                            /* of a System/370 PSW: one is EC, zero BC */
+#define BLANK_PSW UINT64_C(0x0008000080000000)  /* of 370-XA: bit 12 and bit 32 (31-bit addresses) */
+#define SYSTEM_370 1u                           /* mode bits 4-5 */
+#define SYSTEM_XA 2u
 
 /* What an address counts in. */
 enum space {
@@ -90,8 +96,10 @@ struct text_form {
     unsigned host_line, guest_line;     /* of the tables' places, which follow; 0 is none */
     struct place host_tables, guest_tables;
     unsigned number_lines[NUMBER_KINDS];            /* the line that sets each number beside the record; 0 is none */
-    unsigned field_lines[RECORD_BYTES];             /* the same for each field, by its first byte, */
-    unsigned bit_lines[RECORD_BYTES * 8];           /* and for each bit that is set as a part of a field */
+    unsigned field_lines[MOST_RECORD_BYTES];        /* the same for each field, by its first byte, */
+    unsigned bit_lines[MOST_RECORD_BYTES * 8];      /* and for each bit that is set as a part of a field */
+    unsigned system_line, interval_line;            /* of "mode.system = 370" and of the interval timer's word; 0 is none */
+    uint64_t interval;
     unsigned owners[MOST_FRAMES * FRAME_BYTES];     /* the line that put each byte of storage; 0 is none */
     struct case_file c;
     int from_file;              /* c starts as a case file, and not with what holds if nothing is said */
@@ -118,9 +126,34 @@ void apply_settings(struct text_form *f);
 /* A one for each bit of a field that a line sets as a part of it. */
 uint64_t given_bits(const struct text_form *f, const struct field *field);
 
-/* Takes the parts of a PSW as "dat=1, address=start" and sets them in a PSW that has bits 12 and 32 one. Returns 0, or -1 with
-   a message. */
-int parse_psw(const char *at, const struct labels *labels, uint64_t *psw, struct message *m);
+/* A part of a field: bits of it, from the left. */
+struct part {
+    const char *name;
+    unsigned first, bits;
+};
+
+/* The setting's name in small letters, which is no longer than a line; returns where the value starts. */
+const char *split_setting(const char *text, char name[MOST_NAME]);
+
+/* A bit of a field of `width` bits by its number, or a part by its name; those of a PSW by its form. Returns 0, or -1. */
+int find_part(const char *field, enum psw_form form, const char *name, unsigned width, struct part *part);
+
+/* Says that the field has no part of this name. Returns -1. */
+int no_part(const char *field, enum psw_form form, const char *part, unsigned width, struct message *m);
+
+/* Whether this part of a System/370 PSW is the bit that tells its form. */
+int gives_form(const struct part *part);
+
+/* The value of what has this name, in so many bits; the value of a part. Both return 0, or -1 with a message. */
+int parse_value(const char **at, const struct labels *labels, const char *name, unsigned bits, uint64_t *n, struct message *m);
+int parse_part(const char **at, const struct labels *labels, const struct part *part, uint64_t *n, struct message *m);
+
+/* Sets bits of a word of `width` bits; bit 0 is the leftmost. */
+void set_bits(uint64_t *word, unsigned width, unsigned first, unsigned bits, uint64_t n);
+
+/* Takes the parts of a PSW as "dat=1, address=start" and sets them in a PSW that has bits 12 and 32 one, or for System/370 in
+   one of zeros. Returns 0, or -1 with a message. */
+int parse_psw(const char *at, int system370, const struct labels *labels, uint64_t *psw, struct message *m);
 
 /* Fills the page maps. */
 void apply_maps(struct text_form *f);

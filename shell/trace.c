@@ -6,7 +6,7 @@
 #include "command.h"
 #include "ending.h"
 #include "fetch.h"
-#include "fields.h"
+#include "interval.h"
 #include "progress.h"
 #include "psw.h"
 #include "resume.h"
@@ -14,6 +14,10 @@
 
 #define NUMBER 6            /* digits of a unit's number, if those of the budget are not more */
 #define SVC 0x0a
+#define PROGRAM_OLD 40u     /* real addresses of the old PSW and of ILC and code, */
+#define PROGRAM_CODE 140u
+#define SVC_OLD 32u         /* and the same for SVC */
+#define SVC_CODE 136u
 #define REGISTERS 16
 #define TO_BE_INTERCEPTED 0x40      /* interception control bit 1: program exceptions */
 
@@ -26,12 +30,15 @@ static const struct usage usage = {
     "  gr1=00000009                     the register that changed, with its new value; LCTL: the first\n"
     "  operand 00000218                 the logical address of the operand in storage\n"
     "  program interruption 11 hex, address 00003000\n"
-    "  SVC interruption 5               the unit ended in an interruption of the guest\n"
+    "  SVC interruption 5               the unit ended in an interruption of the guest; System/370: also\n"
+    "                                   where code and ILC stand: in a BC old PSW, or beside it\n"
+    "  interval=00000100                the interval timer's word fell to this; T=1 is what that set, and\n"
+    "                                   T=0 what its interception, code 20, took back\n"
     "  -> 0000020c                      the next instruction is not the one that follows\n"
     "If an interception or a host fault ends the run, a line \"exit\" has the instruction at which it did,\n"
     "and the cause. The last line is the one that run prints; the sentence goes to standard error.\n\n"
     RUN_OPTIONS_HELP,
-    1, RUN_OPTIONS,
+    NULL, 1, RUN_OPTIONS,
 };
 
 /* Where the lines go, and the case file as it was before what is to be shown. */
@@ -50,7 +57,7 @@ static void print_columns(const struct trace *r, const char *number, const struc
 
     text_column(t, line, sizeof line);
     fprintf(r->to, "%*s  %08lx  %-*s  cc %u", r->width, number, (unsigned long)psw_address(t->psw), COLUMN, line,
-            psw_bits(field_of(c->record, "psw"), 18, 19));
+            psw_condition_code(psw_of(c->record)));
 }
 
 /* In hex, exactly; and in microseconds, as many places as the column holds. */
@@ -111,6 +118,21 @@ static int is_program_interruption(const struct trace *r, struct case_file *prob
     return e.kind == DREVOKAS_INTERCEPTED && e.number == DREVOKAS_CODE_PROGRAM;
 }
 
+/* The ILC of a System/370 guest's interruption, and where it stands with the code: by the form of the old PSW. */
+static void print_code_place(const struct trace *r, struct psw old, unsigned long ilc, unsigned old_at, unsigned code_at)
+{
+    switch (psw_form(old)) {
+    case BC_PSW:
+        fprintf(r->to, ", ILC %lu, both in the old PSW at real %08x", ilc, old_at);
+        break;
+    case EC_PSW:
+        fprintf(r->to, ", ILC %lu, both at real %08x", ilc, code_at);
+        break;
+    default:
+        break;
+    }
+}
+
 /* The interruption of the guest in which the unit ended, if it did. A completed SVC is always one. */
 static void print_interruption(const struct trace *r, const struct text *t)
 {
@@ -121,10 +143,26 @@ static void print_interruption(const struct trace *r, const struct text *t)
         fprintf(r->to, "  program interruption %02lx hex", (unsigned long)field_of(probe.record, "interruption"));
         if (is_translation(field_of(probe.record, "interruption")))
             fprintf(r->to, ", address %08lx", (unsigned long)field_of(probe.record, "address"));
+        print_code_place(r, t->psw, (unsigned long)field_of(probe.record, "ilc"), PROGRAM_OLD, PROGRAM_CODE);
         if (wrong != NULL)
             fprintf(r->to, ", PSW %s", wrong);
-    } else if (t->bytes[0] == SVC)
+    } else if (t->bytes[0] == SVC) {
         fprintf(r->to, "  SVC interruption %u", t->bytes[1]);
+        print_code_place(r, t->psw, 1, SVC_OLD, SVC_CODE);
+    }
+}
+
+/* The word of the interval timer if it fell, where the tables had it as the unit began; and T if the fall set it. */
+static void print_interval(const struct trace *r, const struct case_file *c)
+{
+    struct interval_place i;
+
+    if (!interval_falls(&r->before))
+        return;
+    i = interval_place(&r->before);
+    fprintf(r->to, "  interval=%08lx", (unsigned long)get_number(c->storage + i.place, 4));
+    if (interval_requested(c->record) && !interval_requested(r->before.record))
+        fprintf(r->to, "  T=1");
 }
 
 /* ---- lines ---- */
@@ -132,8 +170,8 @@ static void print_interruption(const struct trace *r, const struct text *t)
 /* The unit that left c. */
 static void print_unit(const struct trace *r, uint64_t number, const struct case_file *c)
 {
-    struct text t = fetch_text(&r->before, field_of(r->before.record, "psw"));
-    uint32_t next = psw_address(field_of(c->record, "psw"));
+    struct text t = fetch_text(&r->before, psw_of(r->before.record));
+    uint32_t next = psw_address(psw_of(c->record));
     char digits[24];
 
     snprintf(digits, sizeof digits, "%llu", (unsigned long long)number);
@@ -142,6 +180,7 @@ static void print_unit(const struct trace *r, uint64_t number, const struct case
     print_registers(r, c);
     print_operand(r, &t);
     print_interruption(r, &t);
+    print_interval(r, c);
     if (!is_whole(&t) || next != psw_wrapped(t.psw, psw_address(t.psw) + t.length))
         fprintf(r->to, "  -> %08lx", (unsigned long)next);
     fputc('\n', r->to);
@@ -156,6 +195,8 @@ static void print_exit(const struct trace *r, const struct ending *e, const stru
     add_cause(e, c, cause);
     print_columns(r, "exit", &t, c);
     fprintf(r->to, "  %s", cause);
+    if (interval_requested(r->before.record) && !interval_requested(c->record))
+        fprintf(r->to, "  T=0");
     print_registers(r, c);
     if (ended_by_instruction(e))
         print_operand(r, &t);

@@ -5,21 +5,23 @@
 #include "../include/drevokas.h"
 #include "arguments.h"
 #include "command.h"
+#include "psw.h"
 #include "words.h"
 
 static const struct usage usage = {
     "translate FILE ADDRESS [--access fetch|store|instruction]",
     "Translates a guest logical address of a case file, or of standard input if FILE is -. ADDRESS is\n"
-    "hexadecimal: 3000, 0x3000 or X'3000'. It wraps by the PSW's addressing mode. Prints one line:\n"
+    "hexadecimal: 3000, 0x3000 or X'3000'. It wraps by the PSW's addressing mode, for System/370 at 24\n"
+    "bits. Prints one line:\n"
     "  good ADDRESS: SENTENCE                the host absolute address\n"
     "  exception CODE hex: SENTENCE          the guest's program exception\n"
     "  fault CODE hex at ADDRESS: SENTENCE   the host fault and its host virtual address\n"
-    "  I 32: SENTENCE                        entry would fail, and why\n"
+    "  I 32: SENTENCE                        entry would fail, and why; or DAT is on for System/370\n"
     "  R NUMBER: SENTENCE                    refused, and why\n"
     "An address is printed as eight hexadecimal digits.\n\n"
     "  --access KIND    fetch (an operand; if nothing is said), store, or instruction\n\n"
     "Exit status: 0, 1 if it is refused, 2 for bad usage or a file that cannot be read.\n",
-    2, {"--access"},
+    NULL, 2, {"--access"},
 };
 
 /* The access kind of this name; fetch for NULL. */
@@ -72,7 +74,8 @@ static int print_answer(const struct case_file *c, uint64_t answer, uint64_t whe
         printf("fault %02x hex at %08lx: %s, a host fault at that host address\n", number, at, program_words(number));
         return STATUS_GOOD;
     case DREVOKAS_INTERCEPTED:
-        entry_sentence(c->record, text, sizeof text);
+        if (!entry_sentence(c->record, text, sizeof text))
+            snprintf(text, sizeof text, "PSW %s", DAT_NOT_INSTALLED);
         printf("I %u: %s\n", number, text);
         return STATUS_GOOD;
     default:
@@ -85,8 +88,8 @@ static int print_answer(const struct case_file *c, uint64_t answer, uint64_t whe
 static int translate(const struct case_file *c, uint32_t address, uint32_t access)
 {
     uint64_t where = 0;
-    uint64_t answer = drevokas_translate(c->record, RECORD_BYTES, c->storage, (size_t)c->frames * FRAME_BYTES, c->keys,
-                                         c->frames, c->designation, address, access, &where);
+    uint64_t answer = drevokas_translate(c->record, record_bytes(c->record), c->storage, (size_t)c->frames * FRAME_BYTES,
+                                         c->keys, c->frames, c->designation, address, access, &where);
 
     return print_answer(c, answer, where);
 }

@@ -5,7 +5,7 @@
 #include <string.h>
 
 #include "../include/drevokas.h"
-#include "fields.h"
+#include "interval.h"
 
 #define PARAGRAPH (2 * SENTENCE)      /* room for what print_from prints at once */
 
@@ -27,6 +27,7 @@ static const struct word program_codes[] = {
 };
 
 static const struct word external_codes[] = {
+    {0x0080, "interval timer"},
     {0x1004, "clock comparator"},
     {0x1005, "CPU timer"},
 };
@@ -88,22 +89,41 @@ const char *plural(uint64_t number)
     return number == 1 ? "" : "s";
 }
 
+unsigned right_version(const uint8_t *record)
+{
+    return record_bytes(record) == RECORD_BYTES ? 1 : 2;
+}
+
+/* Refusal 7: bytes that must be zero, or the residue. */
+static void reserved_sentence(const uint8_t *record, char *text, size_t room)
+{
+    if (field_of(record, "reserved") != 0)
+        snprintf(text, room, "bytes 66-71 of the record are %012llx hex, and must be zero",
+                 (unsigned long long)field_of(record, "reserved"));
+    else if (field_of(record, "reserved2") != 0)
+        snprintf(text, room, "bytes 201-203 of the record are %06lx hex, and must be zero",
+                 (unsigned long)field_of(record, "reserved2"));
+    else
+        snprintf(text, room, "the residue is %lu, and must be below %u", (unsigned long)field_of(record, "residue"),
+                 INTERVAL_PERIOD);
+}
+
 void refusal_sentence(unsigned number, const struct case_file *c, char *text, size_t room)
 {
     switch (number) {
     case 1:
-        snprintf(text, room, "the record's length field is %lu, and must be 200",
+        snprintf(text, room, "the record's length field is %lu, and must be 200 or 208",
                  (unsigned long)field_of(c->record, "length"));
         break;
     case 2:
-        snprintf(text, room, "the record's version is %lu, and must be 1", (unsigned long)field_of(c->record, "version"));
+        snprintf(text, room, "the record's version is %lu, and must be %u with a length of %u",
+                 (unsigned long)field_of(c->record, "version"), right_version(c->record), record_bytes(c->record));
         break;
     case 6:
         snprintf(text, room, "the time per unit is %lu clock units, and must be 1048576 at most", (unsigned long)c->time);
         break;
     case 7:
-        snprintf(text, room, "bytes 66-71 of the record are %012llx hex, and must be zero",
-                 (unsigned long long)field_of(c->record, "reserved"));
+        reserved_sentence(c->record, text, room);
         break;
     case 9:
         snprintf(text, room, "case file malformed");
@@ -114,6 +134,20 @@ void refusal_sentence(unsigned number, const struct case_file *c, char *text, si
     }
 }
 
+/* The mode, of which bits 4-5 are wrong. */
+static void mode_sentence(const uint8_t *record, char *text, size_t room)
+{
+    unsigned mode = (unsigned)field_of(record, "mode");
+
+    if (record_bytes(record) == MOST_RECORD_BYTES)
+        snprintf(text, room, "mode is %02x hex: bits 4-5 must be 10, for 370-XA, or 01, for System/370", mode);
+    else if ((mode & 0x0c) == 0x04)
+        snprintf(text, room, "mode is %02x hex: bits 4-5 must be 10, for 370-XA; System/370 needs the record of 208 bytes",
+                 mode);
+    else
+        snprintf(text, room, "mode is %02x hex: bits 4-5 must be 10, for 370-XA", mode);
+}
+
 int entry_sentence(const uint8_t *record, char *text, size_t room)
 {
     unsigned mode = (unsigned)field_of(record, "mode");
@@ -121,8 +155,8 @@ int entry_sentence(const uint8_t *record, char *text, size_t room)
     unsigned long prefix = (unsigned long)field_of(record, "prefix") & 0x7ffff000;
 
     text[0] = '\0';
-    if ((mode & 0x0c) != 0x08)
-        snprintf(text, room, "mode is %02x hex: bits 4-5 must be 10, for 370-XA", mode);
+    if ((mode & 0x0c) != 0x08 && !is_system370(record))
+        mode_sentence(record, text, room);
     else if (mode & 0x02)
         snprintf(text, room, "mode is %02x hex: bit 6 must be zero, since preferred storage is not installed", mode);
     else if (origin > 32767)
@@ -132,6 +166,9 @@ int entry_sentence(const uint8_t *record, char *text, size_t room)
     else if (origin + extent > 32768)
         snprintf(text, room, "origin %lu and extent %lu are %lu blocks together, and must be 32768 at most", origin, extent,
                  origin + extent);
+    else if (is_system370(record) && (prefix & 0x7f000000) != 0)
+        snprintf(text, room, "prefix is %08lx: bits 1-7 must be zero for System/370, whose addresses have 24 bits",
+                 (unsigned long)field_of(record, "prefix"));
     else if (prefix + 4096 > extent * 65536)
         snprintf(text, room, "prefix: the block at %08lx is not below the extent, which ends at %08lx", prefix,
                  extent * 65536);

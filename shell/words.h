@@ -28,6 +28,9 @@ const char *external_words(unsigned code);
 /* The ending of a noun after this number: "1 unit", "2 units". */
 const char *plural(uint64_t number);
 
+/* The version that a record of this size has. */
+unsigned right_version(const uint8_t *record);
+
 /* Why a case file is refused with this number: what stands there, and what would be right. */
 void refusal_sentence(unsigned number, const struct case_file *c, char *text, size_t room);
 

@@ -89,7 +89,8 @@ LEVELS = [
 
 # What leads from one level to the next: colour, heading, tests in their order.
 STEPS = [
-    (GUEST, "The guest's tables, if PSW bit 5 (DAT) is one; else real is virtual", [
+    (GUEST, "The guest's tables, if DAT (PSW bit 5) is on; else real is virtual", [
+        "System/370 has DAT off: BC has no such bit; EC with it one is code 32",
         "a store to 0-511 with CR0 bit 3 one, DAT on or off: 4, protection",
         "CR0 bits 8-12 are not 10110: 12 hex, translation specification",
         "the walk from CR1 on: 10, 11 or 12 hex. Each of its entries stands at a",
@@ -124,6 +125,7 @@ WALK = [
 
 def step_box(middle, step):
     fill, heading, tests = step
+    fits(heading, 540, 13.5)
     for line in tests:
         fits(line, 540, 13)
     height = 35 + 18 * len(tests)
@@ -166,10 +168,11 @@ def translation():
 # Lines of eight bytes: first byte, length, colour, name and what stands there.
 KEPT = PLAIN
 FIELDS = [
-    (0, 2, KEPT, ["length", "200"]), (2, 1, KEPT, ["version", "1"]), (3, 1, KEPT, ["V", "5 stop, 6 I/O", "7 external"]),
-    (4, 1, KEPT, ["mode", "4-5: 10", "6: zero"]), (5, 1, KEPT, ["controls", "0 op., 1 prog.", "2 LPSW"]),
+    (0, 2, KEPT, ["length", "200 or 208"]), (2, 1, KEPT, ["version", "1 or 2"]), (3, 1, KEPT, ["V", "5 stop, 6 I/O", "7 external"]),
+    (4, 1, KEPT, ["mode", "4-5: 10, 01", "6: zero", "7: timer off"]), (5, 1, KEPT, ["controls", "0 op., 1 prog.", "2 LPSW"]),
     (6, 2, KEPT, ["LCTL controls", "bit i: control register i"]),
-    (8, 4, KEPT, ["prefix", "bits 1-19: number of the prefix page"]), (12, 2, KEPT, ["origin", "in blocks of 64 KiB"]),
+    (8, 4, KEPT, ["prefix", "bits 1-19: number of the prefix page; in mode 01, 1-7 zero"]),
+    (12, 2, KEPT, ["origin", "in blocks of 64 KiB"]),
     (14, 2, KEPT, ["extent", "in blocks of 64 KiB"]),
     (16, 8, STATE, ["PSW"]), (24, 8, STATE, ["CPU timer"]),
     (32, 8, KEPT, ["clock comparator"]), (40, 8, KEPT, ["epoch difference"]),
@@ -180,48 +183,67 @@ FIELDS = [
     (64, 2, RESULT, ["text, last two bytes"]), (66, 6, KEPT, ["zero"]),
     (72, 4, STATE, ["CR0"]), (76, 4, STATE, ["CR1"]), (128, 4, STATE, ["CR14"]), (132, 4, STATE, ["CR15"]),
     (136, 4, STATE, ["GR0"]), (140, 4, STATE, ["GR1"]), (192, 4, STATE, ["GR14"]), (196, 4, STATE, ["GR15"]),
+    (200, 1, STATE, ["request", "0 is T"]), (201, 3, KEPT, ["zero"]), (204, 4, STATE, ["residue", "0 to 40,959,999"]),
 ]
 
-# Where each line of eight bytes stands, by its first byte; lines between 72 and 128, and 136 and 192, are left out.
-HIGH = 56
-LINES = {0: 60, 8: 116, 16: 172, 24: 214, 32: 256, 40: 298, 48: 340, 56: 396, 64: 438, 72: 480, 128: 546, 136: 588, 192: 654}
-LOW = 42
+# The lines, by the first byte of each: how high it is, and what stands between it and the one above.
+LOW, HIGH = 42, 56
+LINES = {
+    0: (74, ""), 8: (HIGH, ""), 16: (LOW, ""), 24: (LOW, ""), 32: (LOW, ""), 40: (LOW, ""), 48: (HIGH, ""), 56: (LOW, ""),
+    64: (LOW, ""), 72: (LOW, ""), 128: (LOW, "control registers 2 to 13"), 136: (LOW, ""),
+    192: (LOW, "general registers 2 to 13"), 200: (LOW, "in version 2 alone, for the interval timer"),
+}
 
-# The PSW's bits: name, first and last, width.
+# The PSW's forms: what is said of each, and its bits by name, numbers and width.
+STATES = [("key", "8-11", 46), ("one", "12", 40), ("m.c.", "13", 42), ("wait", "14", 42), ("prob.", "15", 46)]
+LEFT = [("zero", "0", 46), ("PER", "1", 40), ("zero", "2-4", 46), ("DAT", "5", 40), ("I/O", "6", 36), ("ext.", "7", 38), *STATES,
+        ("sec.", "16", 40), ("zero", "17", 46), ("cc", "18-19", 48), ("ovfl.", "20", 46), ("masks", "21-23", 56)]
 PSW = [
-    ("zero", "0", 46), ("PER", "1", 40), ("zero", "2-4", 46), ("DAT", "5", 40), ("I/O", "6", 36), ("ext.", "7", 38),
-    ("key", "8-11", 46), ("one", "12", 40), ("m.c.", "13", 42), ("wait", "14", 42), ("prob.", "15", 46), ("sec.", "16", 40),
-    ("zero", "17", 46), ("cc", "18-19", 48), ("ovfl.", "20", 46), ("masks", "21-23", 56), ("zero", "24-31", 62),
+    ("The PSW of 370-XA, mode 10; bit 32 is the addressing mode (one: 31 bits), bits 33-63 are the instruction address",
+     [*LEFT, ("zero", "24-31", 62)]),
+    ("EC, a PSW of System/370, mode 01; bits 40-63 are the instruction address, of 24 bits", [*LEFT, ("zero", "24-39", 62)]),
+    ("BC, the other PSW of System/370; bits 16-33 stay as loaded", [
+        ("channels", "0-5", 70), ("others", "6", 54), ("ext.", "7", 38), STATES[0], ("zero", "12", 42), *STATES[2:],
+        ("interruption code", "16-31", 128), ("ILC", "32-33", 48), ("cc", "34-35", 48), ("ovfl.", "36", 46),
+        ("masks", "37-39", 56), ("address", "40-63", 64)]),
 ]
 
 
-def cell(first, length, fill, lines):
-    y = LINES[first // 8 * 8]
-    height = HIGH if first // 8 * 8 in (0, 8, 48) else LOW
-    x = 84 + first % 8 * 98
-    return box(x, y, 98 * length, height, lines, fill, 12.5)
+def tops(y):
+    """Where each line of the record starts, from y on, and where the last one ends."""
+    found = {}
+    for first, (height, above) in LINES.items():
+        found[first] = y = y + (24 if above else 0)
+        y += height
+    return found, y
+
+
+def cell(y, first, length, fill, lines):
+    return box(84 + first % 8 * 98, y, 98 * length, LINES[first // 8 * 8][0], lines, fill, 12.5)
 
 
 def psw(y):
-    words = "The PSW by bits; bit 32 is the addressing mode (one: 31 bits), bits 33-63 are the instruction address"
-    drawn, x = text(30, y - 12, words, 13, fill=DIM), 84
-    for name, which, width in PSW:
-        drawn += box(x, y, width, 40, [name, which], STATE, 11.5)
-        x += width
+    drawn = []
+    for words, bits in PSW:
+        drawn, x = drawn + text(30, y - 12, words, 13, fill=DIM), 84
+        for name, which, width in bits:
+            drawn += box(x, y, width, 40, [name, which], STATE, 11.5)
+            x += width
+        y += 82
     return drawn
 
 
 def record():
+    top, end = tops(60)
     drawn = []
     for field in FIELDS:
-        drawn += cell(*field)
-    for first, y in LINES.items():
-        drawn += text(74, y + 24, str(first), 13, "end", DIM)
-    drawn += text(476, 537, "control registers 2 to 13", 12.5, "middle", DIM)
-    drawn += text(476, 645, "general registers 2 to 13", 12.5, "middle", DIM)
+        drawn += cell(top[field[0] // 8 * 8], *field)
+    for first, (_, above) in LINES.items():
+        drawn += text(74, top[first] + 24, str(first), 13, "end", DIM)
+        drawn += text(476, top[first] - 9, above, 12.5, "middle", DIM) if above else []
     key = [(STATE, "state: changed by units"), (RESULT, "results: set by the end of a run"), (KEPT, "kept by every operation")]
-    title = "The record: 200 bytes, eight to a line, by the number of the first"
-    return svg(900, 852, title, drawn + legend(84, 728, key) + psw(790))
+    title = "The record: 200 bytes, 208 in version 2; eight to a line, by the number of the first"
+    return svg(900, end + 322, title, drawn + legend(84, end + 32, key) + psw(end + 94))
 
 
 # The crates, from crates.txt. Layers, with a place in each layer that a long line passes.

@@ -65,8 +65,11 @@ LINES = ["at virtual X'7FFFFFFF'", "at frame 7 0FFF", "space 32768", "align 4096
          "psw.bit64 = 1", "map", "host", "guest", "drop 15", "at", "B B", "* *", "#", "at guest 0FF8", "at guest 10",
          "map guest 0-X'FFFF' invalid", "map guest X'1000' to frame 2", "map guest X'2000' to frame 0 protected",
          "map virtual X'1000'-X'3FFF' to real 0", "at virtual X'1000'", "cr0 = X'00B00000'", "cr1 = 127", "designation = 127",
-         "extent = 32767", "guest tables at real X'1000'", "host tables at frame 1"]
-OPCODES = [0x07, 0x0A, 0x18, 0x1A, 0x41, 0x47, 0x50, 0x58, 0x82, 0xB2, 0xB6, 0xB7]
+         "extent = 32767", "guest tables at real X'1000'", "host tables at frame 1",
+         "mode.system = 370", "mode.system = xa", "mode.inactive = 1", "length = 208", "length = 200",
+         "version = 2", "interval = -1", "residue = 40960000", "request.t = 1", "psw.ec = 1", "psw.channels = 63", "psw.cc = 3",
+         "psw ec=1, cc=3, address=start", "psw code=X'80', ilc=2", "SIO 0(1)", "SIO L 1,2"]
+OPCODES = [0x07, 0x0A, 0x18, 0x1A, 0x41, 0x47, 0x50, 0x58, 0x82, 0x9C, 0x9D, 0xB2, 0xB6, 0xB7]
 
 
 def split_word(line):
@@ -163,7 +166,7 @@ def fuzz_text(texts, cases, i):
         os.remove(old)
 
 
-# Damage to case files: length 4, version 1, designation 4, clock 8, time 4, budget 2, record 200, count 1, keys, frames
+# Damage to case files: length 4, version 1, designation 4, clock 8, time 4, budget 2, record 200 or 208, count 1, keys, frames
 
 def whole(frames, record, keys, storage, designation, time, budget):
     rest = struct.pack(">BIQIH", 1, designation, r.randrange(2**64), time, budget) + record + bytes([frames]) + keys + storage
@@ -179,6 +182,9 @@ def random_case():
         record[12:16] = bytes([0, 0, 0, r.choice([1, 1, 2, 255])])
     if r.random() < 0.7:
         record[16:24] = struct.pack(">II", 0x00080000 | (r.randrange(2**32) & 0x07F73F00), 0x80000000 | r.randrange(0x2000))
+    if r.random() < 0.5:
+        record[0:5] = bytes([0, 208, 2, record[3], r.choice([4, 4, 4, 5, 8])])
+        record += bytes([r.choice([0, 128]), 0, 0, 0]) + struct.pack(">I", r.choice([0, 40959999, 40959999, 40960000]))
     storage = bytearray(frames * 4096)
     for _ in range(r.randrange(2000)):
         at = r.randrange(len(storage) // 2) * 2
@@ -201,7 +207,7 @@ def damage_case(data):
     if kind == 1:
         return data + r.randbytes(r.choice([1, 100, 4097, 40000]))
     if kind == 2:
-        return bytes(r.choice([0, 4, 23, 224, len(data), 33000, 33001]))
+        return bytes(r.choice([0, 4, 23, 224, len(data), 33000, 33008, 33009]))
     if kind == 3:
         return r.randbytes(r.choice([1, 224, len(data), 33000]))
     if kind == 4:

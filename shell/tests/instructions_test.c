@@ -45,6 +45,13 @@ static const struct {
     {"STCK  X'8'(1)", "b2051008", NULL},
     {"SPT   X'8'(15)", "b208f008", NULL},
     {"STPT  X'FF8'", "b2090ff8", NULL},
+    {"SIO   X'190'", "9c000190", NULL},
+    {"SIOF  X'0'(1)", "9c011000", NULL},
+    {"TIO   X'190'", "9d000190", NULL},
+    {"CLRIO X'190'", "9d010190", NULL},
+    {"HIO   X'190'", "9e000190", NULL},
+    {"HDV   X'190'", "9e010190", NULL},
+    {"TCH   X'100'(15)", "9f00f100", NULL},
     {"B     X'200'", "47f00200", "BC    15,X'200'"},
     {"NOP   0", "47000000", "BC    0,X'0'"},
     {"BR    14", "07fe", "BCR   15,14"},
@@ -143,7 +150,7 @@ static void test_forms(void)
         expect(length > 0 && strcmp(hex, forms[i].hex) == 0, forms[i].text, length > 0 ? hex : message);
         if (length == 0)
             continue;
-        disassemble(text, length, line, sizeof line);
+        disassemble(text, length, 1, line, sizeof line);
         expect(strcmp(line, forms[i].back ? forms[i].back : forms[i].text) == 0, forms[i].text, line);
     }
 }
@@ -167,7 +174,7 @@ static void there_and_back(const uint8_t *bytes, unsigned length)
     char line[80], message[300];
     uint8_t text[MOST_TEXT];
 
-    disassemble(bytes, length, line, sizeof line);
+    disassemble(bytes, length, 1, line, sizeof line);
     if (strncmp(line, "DC", 2) == 0)
         return;
     if (assemble(line, text, message, sizeof message) != length)
@@ -211,6 +218,7 @@ static void test_data(void)
         {"\x18", 1, "DC    X'18'"},
         {"", 0, "DC    X''"},
         {"\xb2\x30\x12\x34", 4, "DC    X'B2301234'"},
+        {"\x9c\x00\x12\x34", 4, "DC    X'9C001234'"},
         {"\xd2\x01\x02\x03\x04\x05", 6, "DC    X'D20102030405'"},
         {"\x19\x12\x18\x12", 4, "DC    X'1912'"},
         {"\x18\x12\x18\x13", 4, "LR    1,2"},
@@ -220,10 +228,12 @@ static void test_data(void)
     size_t i;
 
     for (i = 0; i < sizeof data / sizeof *data; i++) {
-        disassemble((const uint8_t *)data[i].bytes, data[i].length, line, sizeof line);
+        disassemble((const uint8_t *)data[i].bytes, data[i].length, 0, line, sizeof line);
         expect(strcmp(line, data[i].line) == 0, data[i].line, line);
     }
-    disassemble((const uint8_t *)"\x58\x12\x30\x10", 4, line, 8);
+    disassemble((const uint8_t *)"\x9c\x05\x12\x34", 4, 1, line, sizeof line);
+    expect(strcmp(line, "DC    X'9C051234'") == 0, "9C05 in System/370", line);
+    disassemble((const uint8_t *)"\x58\x12\x30\x10", 4, 0, line, 8);
     expect(strcmp(line, "L     1") == 0, "a line of eight bytes", line);
 }
 

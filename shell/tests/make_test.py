@@ -86,6 +86,94 @@ def test_fields():
     expect(c.keys.hex() == "f81010", "keys")
 
 
+# System/370: the record of 208 bytes, its fields, and PSWs in BC and EC form
+
+LARGER = bytes([0, 208, 2, 0, 4]) + bytes(10) + bytes([1]) + bytes(192)  # mode 01, extent 1, a PSW of zeros
+
+SYSTEM_370 = [  # what is changed of "mode.system = 370": name, value, first byte of the record, expected bytes
+    ("mode.inactive", "1", 4, "05"), ("mode.bit7", "1", 4, "05"), ("mode.bit6", "1", 4, "06"), ("version", "1", 2, "01"),
+    ("request", "X'FF'", 200, "ff"), ("request.t", "1", 200, "80"), ("request.bit0", "1", 200, "80"),
+    ("request.bit7", "1", 200, "01"), ("reserved2", "1", 201, "000001"), ("residue", "40959999", 204, "0270ffff"),
+    ("residue.bit31", "1", 204, "00000001"),
+    ("psw.channels", "B'100001'", 16, "8400000000000000"), ("psw.channel0", "1", 16, "8000000000000000"),
+    ("psw.channel5", "1", 16, "0400000000000000"), ("psw.io", "1", 16, "0200000000000000"),
+    ("psw.external", "1", 16, "0100000000000000"), ("psw.key", "9", 16, "0090000000000000"),
+    ("psw.check", "1", 16, "0004000000000000"), ("psw.wait", "1", 16, "0002000000000000"),
+    ("psw.problem", "1", 16, "0001000000000000"), ("psw.code", "X'0080'", 16, "0000008000000000"),
+    ("psw.ilc", "3", 16, "00000000c0000000"), ("psw.cc", "3", 16, "0000000030000000"),
+    ("psw.mask", "8", 16, "0000000008000000"),
+    ("psw.address", "X'FFFFFF'", 16, "0000000000ffffff"), ("psw.ec", "1", 16, "0008000000000000"),
+    ("psw.bit12", "1", 16, "0008000000000000"),
+    ("psw", "X'FFFFFFFFFFFFFFFF'", 16, "f" * 16),
+]
+
+EXTENDED = [  # parts of a PSW in EC form, and all of it
+    ("per = 1", "4008000000000000"), ("dat = 1", "0408000000000000"), ("io = 1", "0208000000000000"),
+    ("external = 1", "0108000000000000"), ("key = 9", "0098000000000000"), ("check = 1", "000c000000000000"),
+    ("wait = 1", "000a000000000000"), ("problem = 1", "0009000000000000"), ("space = 1", "0008800000000000"),
+    ("cc = 3", "0008300000000000"), ("mask = 8", "0008080000000000"), ("address = X'123456'", "0008000000123456"),
+]
+
+
+def test_system_370():
+    c = made("mode.system = 370")
+    expect(c.record == LARGER and c.length == 228 + 8 * 4097, f"System/370: {c.record.hex()}")
+    expect(made("length = 208\nmode = 4\npsw = 0").record == LARGER, "System/370 by the whole fields")
+    expect(made("MODE.SYSTEM=370\nmode = 0").record == LARGER, "System/370 over the whole of the mode")
+    for name, value, at, wanted in SYSTEM_370:
+        c = made(f"{name} = {value}\nmode.system = 370", what=name)
+        expect(c.record[at:at + len(wanted) // 2].hex() == wanted, f"{name} = {value}: {c.record[at:].hex()}")
+    for part, wanted in EXTENDED:
+        for bit in ("ec", "bit12", "bit012"):
+            c = made(f"psw.{part}\npsw.{bit} = 1\nmode.system = 370", what=part)
+            expect(c.record[16:24].hex() == wanted, f"EC form, psw.{part}: {c.record[16:24].hex()}")
+        c = made(f"at frame 3\npsw {part}, ec = 1\npsw ec = 1, {part}\nmode.system = 370", what=part)
+        expect(c.hex(3 * FRAME, 16) == wanted + wanted, f"EC form, psw {part}: {c.hex(3 * FRAME, 16)}")
+    c = made("mode.system = 370\nat frame 3\npsw\n"
+             "psw channels=B'1', io=1, key=1, code=X'1234', ilc=2, cc=1, mask=15, address=8")
+    expect(c.hex(3 * FRAME, 16) == "0" * 16 + "061012349f000008", f"BC form: {c.hex(3 * FRAME, 16)}")
+    c = made("mode.system = 370\npsw = X'0008000000000000'\npsw.cc = 1\nat frame 3\npsw cc=1, ec=0")
+    expect(c.record[16:24].hex() + c.hex(3 * FRAME, 8) == "0008100000000000" "0000000010000000", "the form by bit 12")
+
+
+def test_larger_record():
+    """370-XA in the larger record, sizes that --from changes, and what stays as it was without the new names."""
+    c = made("length = 208")
+    record = bytearray(208)
+    record[1], record[2], record[4], record[15], record[17], record[20] = 208, 2, 8, 1, 8, 0x80
+    expect(c.record == bytes(record), f"370-XA in the larger record: {c.record.hex()}")
+    expect(made("mode.system = xa").record == made("frames = 8").record, "370-XA by name")
+    for text, at, wanted in (("version = 2", 0, "00c802"), ("mode = 4\npsw.cc = 1", 16, "0008100080000000"),
+                             ("mode.bit5 = 1\nmode.bit4 = 0", 0, "00c8010004"), ("length = 207", 0, "00cf01")):
+        c = made(text)
+        expect(len(c.record) == 200 and c.record[at:at + len(wanted) // 2].hex() == wanted, f"{text!r}: {c.record.hex()}")
+    with tempfile.TemporaryDirectory() as folder:
+        small, large = os.path.join(folder, "small"), os.path.join(folder, "large")
+        call("make", "-", "-o", small, text=b"gr1 = 5\nkey 7 = 9\nat frame 7 0FFC\nword 7")
+        call("make", "-", "-o", large, text=b"mode.system = 370\nrequest.t = 1\nresidue = 5\ngr1 = 5\npsw.ec = 1")
+        c = made("mode.system = 370", "--from", small)
+        expect(c.record[:5].hex() + c.record[16:24].hex() + c.record[200:].hex() ==
+               "00d0020004" "0008000080000000" + "0" * 16, f"to System/370: {c.record.hex()}")
+        expect((c.record[140:144].hex(), c.keys.hex(), c.hex(8 * FRAME - 4, 4)) == ("00000005", "0" * 14 + "09", "00000007"),
+               "what stays on the way to System/370")
+        c = made("length = 200", "--from", large)
+        expect(len(c.record) == 200 and c.record[:5].hex() == "00c8010004", f"to the smaller record: {c.record.hex()}")
+        c = made("psw.cc = 3\nresidue = 6", "--from", large)
+        expect(c.record[16:24].hex() + c.record[200:].hex() == "0008300000000000" "8000000000000006",
+               "fields over a larger record")
+        c = made("mode.system = xa", "--from", large)
+        expect(len(c.record) == 208 and c.record[2:5].hex() == "020008", "370-XA in a larger record that is there")
+
+
+def test_interval():
+    """The interval timer's word, by the prefix; and names of instructions of channels as labels."""
+    text = "mode.system = 370\nprefix = X'1000'\n" + MAP
+    expect(made(text + "interval = X'300'").hex(4 * FRAME + 80, 4) == "00000300", "the word at real 80")
+    expect(made(text + "interval = -1").hex(4 * FRAME + 80, 4) == "ffffffff", "a negative word")
+    c = made(text + "at guest 0\nsio L 1,tio(2)\ntio word 7\nnext SIO next\nTIO 4(0)\nHIO X'190'")
+    expect(c.hex(3 * FRAME, 20) == "58120004" "00000007" "9c000008" "9d000004" "9e000190", f"labels: {c.hex(3 * FRAME, 20)}")
+
+
 # Page maps: tables worked out by hand
 
 MAP = "host tables at frame 1\nmap guest X'0000'-X'2FFF' to frame 3-5\n"
@@ -308,6 +396,27 @@ ERRORS = [
     ("at frame 1\npsw dat=1 wait=1", 2, "\"wait=1\" is too much"),
     ("psw.dat = 2", 1, "2 (X'2') does not fit 1 bit;"),
     ("psw.dog = 1", 1, "the PSW has no part \"dog\""),
+    ("psw.ec = 1", 1, "the PSW has no part \"ec\"; parts are per dat"),
+    ("mode.system = 370\npsw.amode = 24", 2, "the PSW in BC form has no part \"amode\"; parts are channels channel0"),
+    ("mode.system = 370\npsw.ec = 1\npsw.code = 1", 3, "the PSW in EC form has no part \"code\"; parts are per dat io "
+     "external key ec check wait problem space cc mask address, and bit0 to bit63"),
+    ("mode.system = 370\nat frame 1\npsw dat=1", 3, "the PSW in BC form has no part \"dat\""),
+    ("mode.system = 370\nat frame 1\npsw ec=1, channel0=1", 3, "the PSW in EC form has no part \"channel0\""),
+    ("mode.system = 370\nat frame 1\npsw channels=1, channel0=1", 3, "channel0, or a bit of it, is given twice"),
+    ("mode.system = 370\npsw.address = X'1000000'", 2, "24 bits"),
+    ("mode.system = 390", 1, "the system is 370, for System/370, or xa, for 370-XA"),
+    ("mode.system = 370-XA", 1, "the system is 370, for System/370, or xa"),
+    ("mode.system = 370 bc", 1, "\"bc\" is too much"),
+    ("mode.system = 370\nmode.bit5 = 1", 2, "bit 5 of mode is set in line 1 already"),
+    ("mode.dog = 1", 1, "the field mode has no part \"dog\"; its parts are system inactive and bit0 to bit7"),
+    ("request.t = 1", 1, "request is a field of the record of 208 bytes; add \"mode.system = 370\" or \"length = 208\""),
+    ("mode = 4\nresidue = 5", 2, "residue is a field of the record of 208 bytes"),
+    ("interval = 5", 1, "interval is the word of System/370's interval timer; add \"mode.system = 370\""),
+    ("mode.system = 370\ninterval = 5", 2, "guest address X'50' is in no mapped page"),
+    ("mode.system = 370\ninterval = 5\ninterval = 6", 3, "this is set in line 2 already"),
+    ("mode.system = 370\nhost tables at frame 1\nmap guest 0 to frame 3\ninterval = 5\nat real X'50'\nword 5", 4,
+     "overlaps line 6"),
+    ("at frame 1\nSIO", 2, "the operands of SIO are missing; they are D2(B2)"),
     ("psw.bit64 = 1", 1, "the PSW has no part \"bit64\""),
     ("cr0.bit32 = 1", 1, "the field cr0 has no part \"bit32\"; its parts are bit0 to bit31"),
     ("psw.amode = 32", 1, "amode is 24 or 31"),
@@ -494,7 +603,8 @@ def test_terminal():
     expect(p.returncode == 2 and b"standard output is a terminal" in p.stderr, f"a terminal: {p.stderr}")
 
 
-for test in (test_defaults, test_fields, test_host_tables, test_guest_tables, test_data, test_spaces, test_code,
-             test_known_case, test_from, test_errors, test_many_errors, test_long_texts, test_files, test_terminal):
+for test in (test_defaults, test_fields, test_system_370, test_larger_record, test_interval, test_host_tables,
+             test_guest_tables, test_data, test_spaces, test_code, test_known_case, test_from, test_errors, test_many_errors,
+             test_long_texts, test_files, test_terminal):
     test()
 report()

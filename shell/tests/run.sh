@@ -79,7 +79,7 @@ within_100() {
 }
 
 test_usage() {
-    says 0 "$(printf 'drevokas 1.0\nrecord version 1, case file version 1')" '' --version
+    says 0 "$(printf 'drevokas 1.0\nrecord versions 1 and 2, case file version 1')" '' --version
     call help
     [ "$status" -eq 0 ] && grep -q '^usage: drevokas SUBCOMMAND ' "$OUT/out" && [ ! -s "$OUT/err" ] || fail help
     within_100 help
@@ -168,8 +168,8 @@ test_check() {
         check "$FILES/entry_sum_32769.in"
     says 0 'I 32: prefix: the block at 00010000 is not below the extent, which ends at 00010000' '' \
         check "$FILES/entry_prefix_over_extent.in"
-    says 1 "R 1: the record's length field is 199, and must be 200" '' check "$FILES/record_length_199.in"
-    says 1 "R 2: the record's version is 2, and must be 1" '' check "$FILES/record_version_2.in"
+    says 1 "R 1: the record's length field is 199, and must be 200 or 208" '' check "$FILES/record_length_199.in"
+    says 1 "R 2: the record's version is 2, and must be 1 with a length of 200" '' check "$FILES/record_version_2.in"
     says 1 'R 7: bytes 66-71 of the record are 010000000000 hex, and must be zero' '' check "$FILES/byte_66_used.in"
     says 1 'R 9: case file malformed' 'the version in byte 4 is not 1' check "$FILES/malformed_version_2.in"
 }
@@ -186,7 +186,7 @@ test_translate() {
     says 2 '' 'address 0b10: is it hexadecimal, 0x0b10, or binary?' translate "$FILES/ar.in" 0b10
     says 0 'good 00000b10: frame 0, offset b10 hex' '' translate "$FILES/ar.in" 0x0b10
     says 0 'I 32: extent is 0 blocks, and must be 1 at least' '' translate "$FILES/entry_extent_0.in" 0
-    says 1 "R 2: the record's version is 2, and must be 1" '' translate "$FILES/record_version_2.in" 0
+    says 1 "R 2: the record's version is 2, and must be 1 with a length of 200" '' translate "$FILES/record_version_2.in" 0
     says 1 'R 9: case file malformed' 'not a case file' translate "$FILES/malformed_count_9.in" 0
 }
 
@@ -200,10 +200,10 @@ test_damaged() {
     done
     { cat "$FILES/ar.in"; echo; } > "$OUT/long.in"
     says 1 'R 9' 'the length in bytes 0-3 is not the number of bytes that follow it' run "$OUT/long.in"
-    says 1 'R 9' 'over 33000 bytes' run /dev/zero
+    says 1 'R 9' 'over 33008 bytes' run /dev/zero
     says 1 'R 9' 'cut short' run /dev/null
     says 1 'R 9' 'the frame count in byte 223 is not 1 to 8' run "$FILES/malformed_count_0.in"
-    says 1 'R 9' 'over 33000 bytes' run "$FILES/malformed_count_9.in"
+    says 1 'R 9' 'over 33008 bytes' run "$FILES/malformed_count_9.in"
     says 1 'R 9' 'is not 220 and 4097 for each frame of the count in byte 223' run "$FILES/malformed_count_over.in"
     says 1 'R 9' 'standard input: not a case file' run -
     for sub in run trace; do
@@ -357,6 +357,54 @@ test_views() {
     done
 }
 
+# changed LINES: changed.in is 370.in with what these lines say.
+changed() {
+    printf "$1\n" | drevokas make - --from "$OUT/370.in" -o "$OUT/changed.in" || fail "make --from 370.in: $1"
+}
+
+# checks STATUS LINE LINES: check prints this of 370.in with what these lines say.
+checks() {
+    changed "$3"
+    says "$1" "$2" '' check "$OUT/changed.in"
+}
+
+test_system_370() {
+    says 0 '' '' make shell/tests/system370.txt -o "$OUT/370.in"
+    for bytes in 223 224 231 232; do
+        head -c "$bytes" "$OUT/370.in" > "$OUT/cut.in"
+        says 1 'R 9' 'not a case file: the' run "$OUT/cut.in"
+    done
+    { head -c 231 "$OUT/370.in"; printf '\000'; tail -c +233 "$OUT/370.in"; } > "$OUT/cut.in"
+    says 1 'R 9' 'the frame count in byte 231, behind a record of 208 bytes, is not 1 to 8' run "$OUT/cut.in"
+    { head -c 231 "$OUT/370.in"; printf '\005'; tail -c +233 "$OUT/370.in"; } > "$OUT/cut.in"
+    says 1 'R 9' 'is not 228 and 4097 for each frame of the count in byte 231' run "$OUT/cut.in"
+    says 0 good '' check "$OUT/370.in"
+    checks 0 good 'mode.inactive = 1\nmode.system = xa'
+    checks 0 'I 32: mode is 00 hex: bits 4-5 must be 10, for 370-XA, or 01, for System/370' 'mode = 0'
+    checks 0 'I 32: mode is 04 hex: bits 4-5 must be 10, for 370-XA; System/370 needs the record of 208 bytes' 'length = 200'
+    checks 0 'I 32: prefix is 01001000: bits 1-7 must be zero for System/370, whose addresses have 24 bits' \
+        "prefix = X'01001000'\nextent = 512"
+    checks 1 "R 2: the record's version is 1, and must be 2 with a length of 208" 'version = 1'
+    checks 1 'R 7: bytes 201-203 of the record are 000100 hex, and must be zero' "reserved2 = X'100'"
+    checks 1 'R 7: the residue is 40960000, and must be below 40960000' 'residue = 40960000'
+    says 0 'good 00003200: frame 3, offset 200 hex' '' translate "$OUT/370.in" 7f000200
+    changed 'psw = 0\npsw.ec = 1\npsw.dat = 1'
+    says 0 'I 32: PSW bit 5 must be zero: DAT is not installed for System/370' '' translate "$OUT/changed.in" 200
+    shows system370_dat.explain explain "$OUT/changed.in"
+    shows system370.explain explain "$OUT/370.in"
+    within_100 'explain System/370'
+    changed "prefix = X'2000'\nmode.bit0 = 1"
+    shows system370_protected.explain explain "$OUT/changed.in"
+    changed 'mode.inactive = 1'
+    shows system370_inactive.explain explain "$OUT/changed.in"
+    changed 'request.t = 0\ninterventions = 0'
+    shows system370.trace trace "$OUT/changed.in"
+    drevokas run "$OUT/changed.in" --after "$OUT/whole.after" > "$OUT/whole" 2> /dev/null
+    for units in 1 2 3 4; do
+        cut_at "$OUT/changed.in" "$units" 40
+    done
+}
+
 # The shell's own statement of the rules against the library; and a memory checker over everything.
 test_programs() {
     sources=$(ls shell/*.c | grep -v '/main\.c$')
@@ -365,8 +413,9 @@ test_programs() {
     "$CC" $FLAGS -O1 -g -o "$OUT/many" shell/tests/many.c $sources $LIB
     tests=$((tests + 1))
     command -v valgrind > /dev/null || return 0
-    timeout 300 valgrind -q --error-exitcode=99 --leak-check=full "$OUT/many" "$OUT" "$FILES"/*.in "$OUT/rich.in" \
-        > /dev/null 2> "$OUT/valgrind" || fail "valgrind: $(grep -v '^drevokas: ' "$OUT/valgrind" | head -n 40)"
+    timeout 300 valgrind -q --error-exitcode=99 --leak-check=full \
+        "$OUT/many" "$OUT" "$FILES"/*.in "$OUT/rich.in" "$OUT/370.in" > /dev/null 2> "$OUT/valgrind" ||
+        fail "valgrind: $(grep -v '^drevokas: ' "$OUT/valgrind" | head -n 40)"
     tests=$((tests + 1))
 }
 
@@ -383,6 +432,7 @@ test_after
 test_output
 test_make
 test_views
+test_system_370
 test_programs
 timeout 120 python3 shell/tests/words_test.py "$ROOT/target/bin/drevokas" || fail shell/tests/words_test.py
 timeout 300 sh shell/tests/fuzz.sh || fail shell/tests/fuzz.sh

@@ -30,14 +30,20 @@ def call(*arguments, text=b""):
     return p.returncode, p.stdout, p.stderr.decode()
 
 
+def record_size(data):
+    """The bytes of the record in a case file, by its length field."""
+    return 208 if data[23:25] == bytes([0, 208]) else 200
+
+
 class Case:
     """A case file taken apart; storage is all frames together."""
 
     def __init__(self, data):
         self.length, self.version, self.designation, self.clock, self.time, self.budget = struct.unpack(">IBIQIH", data[:23])
-        self.record, self.frames = data[23:223], data[223]
-        self.keys = data[224:224 + self.frames]
-        self.storage = data[224 + self.frames:]
+        count = 23 + record_size(data)
+        self.record, self.frames = data[23:count], data[count]
+        self.keys = data[count + 1:count + 1 + self.frames]
+        self.storage = data[count + 1 + self.frames:]
 
     def words(self, at, count):
         return [f"{w:08x}" for w in struct.unpack(f">{count}I", self.storage[at:at + 4 * count])]

@@ -88,6 +88,12 @@ GUESTS = [
     ("mode = 0\npsw.address = X'201'", "LR 1,2",
      "intercepted, code 32: validity, mode is 00 hex: bits 4-5 must be 10, for 370-XA",
      ["  exit  00000201  (no entry)              cc 0  code 32: validity, mode is 00 hex: bits 4-5 must be 10, for 370-XA"]),
+    ("mode = 4", "LR 1,2",
+     "intercepted, code 32: validity, mode is 04 hex: bits 4-5 must be 10, for 370-XA; System/370 needs the record of 208 "
+     "bytes",
+     ["System/370 needs the record of 208 bytes"]),
+    ("interceptions.bit0 = 1", "SIO X'190'", "intercepted, code 44: operation exception, by DC X'9C000190' at 00000200",
+     ["code 44: operation exception"]),
     ("interventions = 4", "LR 1,2", "intercepted, code 40: stop request, at 00000200",
      ["  exit  00000200  LR    1,2               cc 0  code 40: stop request"]),
     ("interventions = 2\npsw.io = 1", "LR 1,2", "intercepted, code 24: I/O request, at 00000200", ["code 24: I/O request"]),
@@ -108,11 +114,61 @@ GUESTS = [
      ["  operand 00000008  program interruption 11 hex, address 00000000  -> 00000304", "wait state"]),
 ]
 
+# The same for System/370: the settings have "mode.system = 370" before them.
+NEXT = "residue = 40959999"     # the word falls in the next unit
+SYSTEM_370 = [
+    ("", "SVC 5" + NEW_PSWS, "intercepted, code 28: wait state, at 00000300",
+     ["  SVC interruption 5, ILC 1, both in the old PSW at real 00000020  -> 00000300",
+      "  exit  00000300  (wait state)            cc 0  code 28: wait state"]),
+    ("psw.ec = 1", "SVC 5" + NEW_PSWS, "intercepted, code 28: wait state, at 00000300",
+     ["  SVC interruption 5, ILC 1, both at real 00000088  -> 00000300", "wait state"]),
+    ("", "bytes X'B2300000'" + NEW_PSWS, "intercepted, code 28: wait state, at 00000304",
+     ["  program interruption 01 hex, ILC 2, both in the old PSW at real 00000028  -> 00000304", "wait state"]),
+    ("interceptions.bit0 = 1", "bytes X'B2300000'", "intercepted, code 44: operation exception, by DC X'B2300000' at 00000200",
+     ["code 44: operation exception"]),
+    ("psw.ec = 1\npsw.bit32 = 1", "LR 1,2" + NEW_PSWS, "intercepted, code 28: wait state, at 00000304",
+     ["  program interruption 06 hex, ILC 0, both at real 0000008c, PSW bits 32-39 must be zero  -> 00000304", "wait state"]),
+    ("psw = X'FC00FFFFC0000200'", "SIO X'190'", "intercepted, code 4: SIO X'190' at 00000200",
+     ["  exit  00000200  SIO   X'190'            cc 0  code 4: instruction"]),
+    ("", "bytes X'9FFF0001'", "intercepted, code 4: DC X'9FFF0001' at 00000200", ["code 4: instruction"]),
+    ("psw.ec = 1\npsw.dat = 1", "LR 1,2",
+     "intercepted, code 32: validity, PSW bit 5 must be zero: DAT is not installed for System/370, at 00000200",
+     ["  exit  00000200  (PSW not installed)     cc 0  code 32: validity, PSW bit 5 must be zero: DAT is not installed for "
+      "System/370"]),
+    ("prefix = X'1000000'", "LR 1,2",
+     "intercepted, code 32: validity, prefix is 01000000: bits 1-7 must be zero for System/370, whose addresses have 24 bits",
+     ["whose addresses have 24 bits"]),
+    ("interceptions.bit1 = 1\npsw.mask = 8\ngr1 = X'7FFFFFFF'\ngr2 = 1", "AR 1,2",
+     "intercepted, code 8: program exception 08 hex, fixed-point overflow, by AR 1,2 at 00000200",
+     ["  exit  00000200  AR    1,2               cc 3  code 8: program exception 08 hex, fixed-point overflow  gr1=80000000"]),
+    ("gr1 = X'7FFFFFFF'\ngr2 = 1\nbudget = 1\npsw.ilc = 2", "AR 1,2", "budget used: 1 unit completed",
+     ["  00000200  AR    1,2               cc 3  timer fffffffffffff000                -1 us  gr1=80000000"]),
+    ("gr2 = X'FFF004'\npsw.ilc = 3", "L 1,X'FFC'(,2)\nDIAG 1,2,3\n", "intercepted, code 4: DIAG 1,2,X'3' at 00000204",
+     ["  operand 00000000", "instruction"]),
+    ("interventions = 2\npsw.channel3 = 1", "LR 1,2", "intercepted, code 24: I/O request, at 00000200",
+     ["code 24: I/O request"]),
+    # the interval timer: the last fall before T, and the interception; a fall that sets nothing; none while it is inactive
+    (f"interval = 255\n{NEXT}\npsw.external = 1\ncr0.bit24 = 1", "LR 1,2\nLR 1,2",
+     "intercepted, code 20: external interruption 0080 hex, interval timer, at 00000202",
+     ["us  interval=ffffffff  T=1", "code 20: external interruption 0080 hex, interval timer  T=0"]),
+    (f"interval = 256\n{NEXT}\nbudget = 1", "LR 1,2", "budget used: 1 unit completed", ["us  interval=00000000"]),
+    (f"interval = X'80000000'\n{NEXT}\nbudget = 1", "LR 1,2", "budget used: 1 unit completed", ["us  interval=7fffff00"]),
+    (f"interval = 0\n{NEXT}\nrequest.t = 1\nbudget = 1", "LR 1,2", "budget used: 1 unit completed",
+     ["us  interval=ffffff00"]),
+    (f"{NEXT}\nbudget = 1\ngr1 = X'1234'", "ST 1,X'50'", "budget used: 1 unit completed",
+     ["us  operand 00000050  interval=00001134"]),
+    (f"{NEXT}\nmode.inactive = 1\nrequest.t = 1\npsw.external = 1\ncr0.bit24 = 1\nbudget = 1", "LR 1,2",
+     "budget used: 1 unit completed", ["-1 us"]),
+    (f"{NEXT}\nprefix = X'3000'\npsw.address = X'1000'", "LR 0,0\nat guest X'1000'\nLR 1,2",
+     "host fault 11 hex, page translation, at host address 00003050, by LR 1,2 at 00001000, with the fall of the interval "
+     "timer's word", ["host fault 11 hex, page translation, at host address 00003050"]),
+]
 
-def test_guests(folder):
+
+def test_guests(folder, guests, first):
     name = os.path.join(folder, "guest.case")
-    for settings, contents, sentence, ends in GUESTS:
-        head = HEAD
+    for settings, contents, sentence, ends in guests:
+        head = HEAD + first
         for line in settings.split("\n"):
             head = re.sub(rf"(?m)^{re.escape(line.split('=')[0])}=.*\n", "", head) if "=" in line else head
         text = f"{head}{settings}\nat guest X'200'\n{contents}\n"
@@ -217,14 +273,15 @@ def test_one(folder):
     call("make", "-", "-o", name, text=b"frames = 1\ntime = 1\nbudget = 1\nlength = 1\nilc = 1\nlctl = X'8'\n")
     explained = re.sub(" +", " ", call("explain", name)[1].decode())
     for line in ("time per unit 1 clock unit, 0.000244140625 us", "budget 1 unit\n", "storage 1 frame, ",
-                 " 1 byte: must be 200",
+                 " 1 byte: must be 200 or 208",
                  "instruction-length code: 1 halfword\n", "of control register 12\n"):
         expect(line in explained, f"explain does not say {line!r}")
 
 
 with tempfile.TemporaryDirectory() as place:
     test_one(place)
-    test_guests(place)
+    test_guests(place, GUESTS, "")
+    test_guests(place, SYSTEM_370, "mode.system = 370\n")
     test_wrapped_back(place)
     test_kept(place)
 test_wide_numbers()

@@ -1,5 +1,6 @@
-/* Pseudo-random cases for translate. Most reach their byte or fail near the end of the walk: tables are built for the
-   address first, with a liking for page ends, limits and the prefix block, and then some cases are damaged. */
+/* Pseudo-random cases for translate: 370-XA guests in records of both lengths, and System/370 guests. Most reach their byte
+   or fail near the end of the walk: tables are built for the address first, with a liking for page ends, limits and the
+   prefix block, and then some cases are damaged. */
 #ifndef CASES_H
 #define CASES_H
 
@@ -31,9 +32,11 @@ struct guest_case {
     uint8_t record[CASE_RECORD_ROOM], *storage, keys[CASE_KEYS_ROOM];
     size_t record_len, storage_len, keys_len;
     uint32_t designation, address, access;
-    /* how it was made: the state of the numbers, the words that are not zero in the storage, the wrapped address, the
-       guest's place, the table of host segments and the host's tables as far as they are built */
+    /* how it was made: the state of the numbers, the guest's architecture, whether it has tables, the words that are not
+       zero in the storage, the wrapped address, the guest's place, the table of host segments and the host's tables as far
+       as they are built */
     uint64_t random;
+    int system370, dat;
     uint32_t words[CASE_WORDS], word_count;
     uint32_t logical, origin, pages, prefix, step, segment_table, most_index;
     struct case_segment segments[CASE_SEGMENTS];
@@ -209,21 +212,36 @@ static inline void choose_address(struct guest_case *c, int dat, int wide)
     c->address = once_in(c, 2) ? c->logical : c->logical | (any_word(c) & ~mask);
 }
 
+/* The left word of a System/370 guest's PSW, BC or EC. In BC bit 5 is a channel's mask; in EC it is DAT and seldom one. */
+static inline uint32_t system370_psw(struct guest_case *c)
+{
+    uint32_t psw = any_word(c);
+
+    if (once_in(c, 2))
+        return psw & ~PSW_BASE;
+    return once_in(c, 8) ? psw | PSW_BASE | PSW_DAT : (psw | PSW_BASE) & ~PSW_DAT;
+}
+
 static inline void choose_cpu(struct guest_case *c)
 {
-    int dat = !once_in(c, 4), wide = !once_in(c, 4);
+    int wide = !once_in(c, 4);
     uint32_t psw = any_word(c), cr0 = any_word(c), right = any_word(c);
 
-    psw = dat ? psw | PSW_DAT : psw & ~PSW_DAT;
+    c->dat = !c->system370 && !once_in(c, 4);
+    if (c->system370)
+        psw = system370_psw(c);
+    else
+        psw = c->dat ? psw | PSW_DAT : psw & ~PSW_DAT;
     if (once_in(c, 2))
         psw &= ~PSW_KEY(15);
-    cr0 = (cr0 & ~CR0_FORMAT_BITS) | CR0_FORMAT;
+    if (!c->system370 || once_in(c, 2))
+        cr0 = (cr0 & ~CR0_FORMAT_BITS) | CR0_FORMAT;
     right = wide ? right | PSW_31 : right & ~PSW_31;
     put32(c->record + AT_PSW, psw);
     put32(c->record + AT_PSW + 4, right);
     put32(c->record + AT_CR0, cr0);
     c->access = below(c, 3);
-    choose_address(c, dat, wide);
+    choose_address(c, c->dat, wide && !c->system370);
 }
 
 /* What the guest tables are to be: the real pages of the tables and of the byte. */
@@ -251,7 +269,7 @@ static inline void choose_tables(struct guest_case *c, struct case_tables *t)
     t->page = edge_below(c, c->pages) << 12 | (any_word(c) & 0xff) | (once_in(c, 6) ? PAGE_PROTECTED : 0);
 }
 
-/* A prefix that is often one of the pages reached for. */
+/* A prefix that is often one of the pages reached for; of a System/370 guest, one with a 24-bit address. */
 static inline void choose_prefix(struct guest_case *c, const struct case_tables *t)
 {
     uint32_t wishes[5];
@@ -264,6 +282,8 @@ static inline void choose_prefix(struct guest_case *c, const struct case_tables 
     c->prefix = once_in(c, 3) ? edge_below(c, c->pages) : ONE_OF(c, wishes);
     if (c->prefix >= c->pages)
         c->prefix = c->pages - 1;
+    if (c->system370)
+        c->prefix &= 0xfff;
     put32(c->record + AT_PREFIX, c->prefix << 12 | (any_word(c) & 0x80000fffu));
 }
 
@@ -290,24 +310,36 @@ static inline void build_host_segments(struct guest_case *c)
     c->designation = c->segment_table << 12 | tight_or(c, c->most_index >> 4, 127) | (any_word(c) & 0x80000f80u);
 }
 
+/* Other bytes than zero wherever a good record may have them. One in three records is of 200 bytes; of the others one in
+   three is a 370-XA guest's. */
+static inline void choose_record(struct guest_case *c)
+{
+    uint32_t i, large = below(c, 3);
+
+    c->system370 = large != 0 && !once_in(c, 3);
+    c->record_len = large ? DREVOKAS_LONG_RECORD_LENGTH : DREVOKAS_RECORD_LENGTH;
+    for (i = 0; i < c->record_len; i++)
+        c->record[i] = (uint8_t)below(c, 256);
+    memset(c->record + AT_RESERVED, 0, RESERVED_BYTES);
+    put16(c->record + AT_LENGTH, (uint32_t)c->record_len);
+    c->record[AT_VERSION] = large ? DREVOKAS_LONG_RECORD_VERSION : DREVOKAS_RECORD_VERSION;
+    c->record[AT_MODE] = (uint8_t)((c->system370 ? MODE_370 : MODE_XA) | (any_word(c) & 0xf1));
+    memset(c->record + AT_INTERVAL + 1, 0, 3);
+    if (large)
+        put32(c->record + AT_RESIDUE, edge_below(c, INTERVAL_PERIOD));
+}
+
 static inline void sound_case(struct guest_case *c)
 {
     struct case_tables t;
-    uint32_t i;
 
-    for (i = 0; i < DREVOKAS_RECORD_LENGTH; i++)
-        c->record[i] = (uint8_t)below(c, 256);
-    memset(c->record + AT_RESERVED, 0, RESERVED_BYTES);
-    c->record_len = DREVOKAS_RECORD_LENGTH;
-    put16(c->record + AT_LENGTH, DREVOKAS_RECORD_LENGTH);
-    c->record[AT_VERSION] = DREVOKAS_RECORD_VERSION;
-    c->record[AT_MODE] = (uint8_t)(MODE_XA | (any_word(c) & 0xf1));
+    choose_record(c);
     choose_guest(c);
     choose_cpu(c);
     choose_tables(c, &t);
     choose_prefix(c, &t);
     put32(c->record + AT_CR1, t.cr1);
-    if (get32(c->record + AT_PSW) & PSW_DAT) {
+    if (c->dat) {
         guest_table_word(c, t.segment_at, t.segment);
         guest_table_word(c, t.page_at, t.page);
         choose_key(c, t.page & 0x7ffff000u);
@@ -375,7 +407,7 @@ static inline void damage_numbers(struct guest_case *c)
 /* Lengths near the ones that are right, and at the limits. */
 static inline void damage_lengths(struct guest_case *c)
 {
-    static const uint32_t records[] = {0, 1, 2, 66, 71, 199, 201, 300};
+    static const uint32_t records[] = {0, 1, 2, 66, 71, 199, 200, 201, 207, 208, 209, 300};
     static const uint32_t storages[] = {0, 1, 4095, 4097, 0xf800, 0x10001, 0xffffff, 0x1000000, 0x1000001, 0x1001000};
 
     switch (below(c, 5)) {
@@ -394,6 +426,51 @@ static inline void damage_lengths(struct guest_case *c)
         break;
     default:
         c->keys_len = below(c, 20);
+    }
+}
+
+/* The length field, the version, both, or only what is lent, as the other record has them. */
+static inline void damage_size(struct guest_case *c)
+{
+    int large = c->record_len == DREVOKAS_RECORD_LENGTH;
+    uint32_t which = 1 + below(c, 7);
+
+    if (which & 1)
+        put16(c->record + AT_LENGTH, large ? DREVOKAS_LONG_RECORD_LENGTH : DREVOKAS_RECORD_LENGTH);
+    if (which & 2)
+        c->record[AT_VERSION] = large ? DREVOKAS_LONG_RECORD_VERSION : DREVOKAS_RECORD_VERSION;
+    if (which & 4)
+        c->record_len = large ? DREVOKAS_LONG_RECORD_LENGTH : DREVOKAS_RECORD_LENGTH;
+}
+
+/* What request 1/12 asks of a record: its size, bytes 201-203, the residue, and in mode 01 the prefix and the PSW. */
+static inline void damage_long_record(struct guest_case *c)
+{
+    static const uint32_t residues[] = {INTERVAL_PERIOD - 1, INTERVAL_PERIOD, INTERVAL_PERIOD + 1, 0x80000000u, 0xffffffffu};
+    static const uint32_t prefixes[] = {0x00fff000, 0x01000000, 0x40000000, 0x7f000000, 0x80000000u};
+    static const uint32_t psw_bits[] = {5, 12};
+    uint8_t *psw = c->record + AT_PSW;
+
+    switch (below(c, 6)) {
+    case 0:
+        damage_size(c);
+        break;
+    case 1:
+        c->record[AT_INTERVAL + below(c, 4)] ^= (uint8_t)(1u << below(c, 8));
+        break;
+    case 2:
+        put32(c->record + AT_RESIDUE, ONE_OF(c, residues));
+        break;
+    case 3:
+        put32(c->record + AT_PREFIX, ONE_OF(c, prefixes));
+        put16(c->record + AT_ORIGIN, 0);
+        put16(c->record + AT_EXTENT, 32768);
+        break;
+    case 4:
+        c->record[AT_MODE] ^= MODE_370 | MODE_XA;
+        break;
+    default:
+        put32(psw, get32(psw) ^ BIT(ONE_OF(c, psw_bits)));
     }
 }
 
@@ -427,7 +504,7 @@ static inline void damage_record(struct guest_case *c)
 
 static inline void damage(struct guest_case *c)
 {
-    switch (below(c, 8)) {
+    switch (below(c, 10)) {
     case 0:
         damage_numbers(c);
         break;
@@ -436,6 +513,9 @@ static inline void damage(struct guest_case *c)
         break;
     case 2:
         damage_record(c);
+        break;
+    case 3:
+        damage_long_record(c);
         break;
     default:
         damage_entry(c);

@@ -10,9 +10,30 @@
 #define TALLY_KINDS 6
 #define TALLY_NUMBERS 64
 
-/* How often each answer of translate was given. */
+/* The records that are told apart: of any other length than 208; of 208 bytes, and not mode 01; mode 01 by the PSW's form. */
+enum { RECORD_SHORT, RECORD_LONG, RECORD_BC, RECORD_EC, RECORD_SORTS };
+
+/* Request 1/12, by what a case hands in. */
+enum {
+    FIELD_208_OF_200,
+    FIELD_200_OF_208,
+    VERSION_2_OF_200,
+    VERSION_1_OF_208,
+    ZERO_BYTES_USED,
+    RESIDUE_TOO_LARGE,
+    MODE_01_OF_200,
+    PREFIX_IN_MODE_01,
+    PREFIX_IN_MODE_10,
+    DAT_IN_EC,
+    BIT_5_IN_BC,
+    BIT_32_IN_MODE_01,
+    RULES
+};
+
+/* How often each answer of translate was given, by the sort of record; and how often each rule of `rules` gave its answer. */
 struct tally {
-    unsigned long count[TALLY_KINDS][TALLY_NUMBERS];
+    unsigned long count[RECORD_SORTS][TALLY_KINDS][TALLY_NUMBERS];
+    unsigned long ruled[RULES];
 };
 
 struct compared {
@@ -32,6 +53,98 @@ static inline struct compared ask(translate_function *translate, const struct gu
     return r;
 }
 
+/* ---- tallies ---- */
+
+static inline int sort_of(const struct guest_case *c)
+{
+    if (c->record_len != DREVOKAS_LONG_RECORD_LENGTH)
+        return RECORD_SHORT;
+    if ((c->record[AT_MODE] & (MODE_370 | MODE_XA)) != MODE_370)
+        return RECORD_LONG;
+    return get32(c->record + AT_PSW) & PSW_BASE ? RECORD_EC : RECORD_BC;
+}
+
+/* Whether a case's record has this length, in bytes and in its field, and this version. */
+static inline int sized_as(const struct guest_case *c, size_t len, uint32_t field, uint32_t version)
+{
+    return c->record_len == len && get32(c->record) >> 8 == (field << 8 | version);
+}
+
+static inline int case_bit(const struct guest_case *c, size_t at, int bit)
+{
+    return (get32(c->record + at) & BIT(bit)) != 0;
+}
+
+static inline int large_prefix(const struct guest_case *c)
+{
+    return (get32(c->record + AT_PREFIX) & 0x7f000000u) != 0;
+}
+
+/* The answer that each of the rules gives. */
+static const struct {
+    const char *name;
+    uint32_t kind, number;
+} rules[RULES] = {
+    {"length field 208 of 200 bytes", DREVOKAS_REFUSED, 1},
+    {"length field 200 of 208 bytes", DREVOKAS_REFUSED, 1},
+    {"version 2 of 200 bytes", DREVOKAS_REFUSED, 2},
+    {"version 1 of 208 bytes", DREVOKAS_REFUSED, 2},
+    {"bytes 201-203 not zero", DREVOKAS_REFUSED, 7},
+    {"residue 40960000 or more", DREVOKAS_REFUSED, 7},
+    {"mode 01 in 200 bytes", DREVOKAS_INTERCEPTED, 32},
+    {"mode 01, prefix bits 1-7", DREVOKAS_INTERCEPTED, 32},
+    {"mode 10, prefix bits 1-7", DREVOKAS_GOOD, 0},
+    {"EC, DAT on", DREVOKAS_INTERCEPTED, 32},
+    {"BC, bit 5 one", DREVOKAS_GOOD, 0},
+    {"mode 01, 31-bit address", DREVOKAS_GOOD, 0},
+};
+
+static inline int rule_applies(const struct guest_case *c, int rule)
+{
+    int sort = sort_of(c), system370 = sort == RECORD_BC || sort == RECORD_EC;
+
+    switch (rule) {
+    case FIELD_208_OF_200:
+        return sized_as(c, 200, 208, 1) || sized_as(c, 200, 208, 2);
+    case FIELD_200_OF_208:
+        return sized_as(c, 208, 200, 1) || sized_as(c, 208, 200, 2);
+    case VERSION_2_OF_200:
+        return sized_as(c, 200, 200, 2);
+    case VERSION_1_OF_208:
+        return sized_as(c, 208, 208, 1);
+    case ZERO_BYTES_USED:
+        return sized_as(c, 208, 208, 2) && (get32(c->record + AT_INTERVAL) & 0xffffff) != 0;
+    case RESIDUE_TOO_LARGE:
+        return sized_as(c, 208, 208, 2) && get32(c->record + AT_RESIDUE) >= INTERVAL_PERIOD;
+    case MODE_01_OF_200:
+        return sized_as(c, 200, 200, 1) && (c->record[AT_MODE] & 0x0e) == MODE_370;
+    case PREFIX_IN_MODE_01:
+        return system370 && large_prefix(c) && get32(c->record + AT_ORIGIN) == 32768;
+    case PREFIX_IN_MODE_10:
+        return sort == RECORD_LONG && large_prefix(c);
+    case DAT_IN_EC:
+        return sort == RECORD_EC && case_bit(c, AT_PSW, 5) && drevokas_kind(plain_check(c->record, 208)) == DREVOKAS_GOOD;
+    case BIT_5_IN_BC:
+        return sort == RECORD_BC && case_bit(c, AT_PSW, 5);
+    default: /* BIT_32_IN_MODE_01 */
+        return system370 && case_bit(c, AT_PSW + 4, 0) && (c->address & 0x7f000000u) != 0;
+    }
+}
+
+static inline void count_answer(struct tally *t, const struct guest_case *c, uint64_t answer)
+{
+    uint32_t kind = drevokas_kind(answer), number = drevokas_number(answer);
+    int rule;
+
+    if (kind < TALLY_KINDS && number < TALLY_NUMBERS)
+        t->count[sort_of(c)][kind][number]++;
+    for (rule = 0; rule < RULES; rule++)
+        if (kind == rules[rule].kind && number == rules[rule].number && rule_applies(c, rule))
+            t->ruled[rule]++;
+}
+
+/* ---- comparing ---- */
+
 static inline void print_answer(const char *who, struct compared r)
 {
     printf("  %s: %016llx, where %016llx\n", who, (unsigned long long)r.answer, (unsigned long long)r.where);
@@ -44,7 +157,7 @@ static inline void print_case(const struct guest_case *c)
     printf("  lengths %lu, %lu, %lu; designation %08lx, address %08lx, access %lu\n  record ",
            (unsigned long)c->record_len, (unsigned long)c->storage_len, (unsigned long)c->keys_len,
            (unsigned long)c->designation, (unsigned long)c->address, (unsigned long)c->access);
-    for (i = 0; i < DREVOKAS_RECORD_LENGTH; i++)
+    for (i = 0; i < DREVOKAS_LONG_RECORD_LENGTH; i++)
         printf("%02x", c->record[i]);
     printf("\n  storage, zero but for");
     for (i = 0; i < c->word_count; i++)
@@ -69,15 +182,13 @@ static inline int same_translate(struct guest_case *c, struct tally *t)
 {
     uint64_t before = case_random(c);
     struct compared ours = ask(drevokas_translate, c, before), plain = ask(plain_translate, c, before);
-    uint32_t kind = drevokas_kind(ours.answer), number = drevokas_number(ours.answer);
 
     if (ours.answer != plain.answer || ours.where != plain.where) {
         print_answer("drevokas", ours);
         print_answer("plain", plain);
         return 0;
     }
-    if (kind < TALLY_KINDS && number < TALLY_NUMBERS)
-        t->count[kind][number]++;
+    count_answer(t, c, ours.answer);
     return 1;
 }
 

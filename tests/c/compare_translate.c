@@ -1,9 +1,9 @@
 /* Compares check and translate with the plain C versions on pseudo-random cases, and sees that every answer that
-   translate can give is among them.
+   translate can give is among them, for each sort of record, and that each rule of request 1/12 is.
    Usage: compare_translate [cases [seed]] */
 #include "compare.h"
 
-#define CASES 500000
+#define CASES 1500000
 #define SEED 370
 
 /* The answers of translate, by kind and number. */
@@ -31,21 +31,44 @@ static const struct {
     {DREVOKAS_GOOD, 0, "translated"},
 };
 
-/* Prints how often each answer was given; whether all were given and no others. */
+/* With DAT off, as a System/370 guest has it, there is no walk through the guest's tables. */
+static int possible(int sort, uint32_t kind, uint32_t number)
+{
+    return kind != DREVOKAS_PROGRAM_EXCEPTION || number < 0x10 || sort == RECORD_SHORT || sort == RECORD_LONG;
+}
+
+/* Prints how often each answer was given, by the sort of record; whether all that are possible were given and no others. */
 static int all_given(const struct tally *t, unsigned long cases)
 {
     unsigned long total = 0;
-    int all = 1;
+    int all = 1, sort;
     size_t i;
 
+    printf("%-21s %10s %10s %10s %10s\n", "", "version 1", "version 2", "BC", "EC");
     for (i = 0; i < sizeof answers / sizeof *answers; i++) {
-        unsigned long count = t->count[answers[i].kind][answers[i].number];
+        printf("%-17s %2lu:", answers[i].name, (unsigned long)answers[i].number);
+        for (sort = 0; sort < RECORD_SORTS; sort++) {
+            unsigned long count = t->count[sort][answers[i].kind][answers[i].number];
 
-        printf("%-17s %2lu: %lu\n", answers[i].name, (unsigned long)answers[i].number, count);
-        total += count;
-        all &= count != 0;
+            printf(" %10lu", count);
+            total += count;
+            all &= (count != 0) == possible(sort, answers[i].kind, answers[i].number);
+        }
+        printf("\n");
     }
     return all && total == cases;
+}
+
+/* Prints how often each rule gave its answer; whether all did. */
+static int all_ruled(const struct tally *t)
+{
+    int all = 1, rule;
+
+    for (rule = 0; rule < RULES; rule++) {
+        printf("%-30s %10lu\n", rules[rule].name, t->ruled[rule]);
+        all &= t->ruled[rule] != 0;
+    }
+    return all;
 }
 
 int main(int argc, char **argv)
@@ -59,6 +82,10 @@ int main(int argc, char **argv)
         return 1;
     if (!all_given(&t, cases)) {
         printf("an answer is missing, or one that translate cannot give was given\n");
+        return 1;
+    }
+    if (!all_ruled(&t)) {
+        printf("a rule gave no answer\n");
         return 1;
     }
     printf("%lu cases the same\n", cases);

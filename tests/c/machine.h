@@ -88,6 +88,14 @@ static inline struct machine machine_of(size_t frames)
     return m;
 }
 
+/* Makes the record one of version 2, its last eight bytes zero. */
+static inline void lengthen(struct machine *m)
+{
+    resize(&m->record, DREVOKAS_LONG_RECORD_LENGTH);
+    put16(m->record.at + AT_LENGTH, DREVOKAS_LONG_RECORD_LENGTH);
+    m->record.at[AT_VERSION] = DREVOKAS_LONG_RECORD_VERSION;
+}
+
 static inline void discard(struct machine *m)
 {
     release(&m->record);

@@ -25,12 +25,15 @@ done
 
 "$CC" $FLAGS -O1 -g -o "$OUT/test_translate" tests/c/test_translate.c "$LIB"
 "$CC" $FLAGS -O1 -g -o "$OUT/test_run" tests/c/test_run.c "$LIB"
+"$CC" $FLAGS -O1 -g -o "$OUT/test_system370" tests/c/test_system370.c "$LIB"
 "$CC" $FLAGS -O2 -o "$OUT/compare_translate" tests/c/compare_translate.c bench/plain.c "$LIB"
 
 echo "test_translate"
 "$OUT/test_translate"
 echo "test_run"
 "$OUT/test_run"
+echo "test_system370"
+"$OUT/test_system370"
 echo "compare_translate"
 "$OUT/compare_translate"
 if command -v valgrind > /dev/null; then
@@ -38,4 +41,6 @@ if command -v valgrind > /dev/null; then
     valgrind --error-exitcode=9 -q "$OUT/test_translate"
     echo "test_run under valgrind"
     valgrind --error-exitcode=9 -q "$OUT/test_run"
+    echo "test_system370 under valgrind"
+    valgrind --error-exitcode=9 -q "$OUT/test_system370"
 fi

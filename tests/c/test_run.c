@@ -1,16 +1,9 @@
 /* The run operation, called from C: its ends, what it leaves alone, and a run that is cut at every unit. The setup is that of
    document 01's worked examples, with guest page 0 in frame 3. */
-#include "machine.h"
+#include "running.h"
 
-#define AT_REQUESTS 3
-#define AT_CONTROLS 5
-#define AT_TIMER 24
-#define AT_RESULTS 52
-#define AT_GENERAL 136
-#define PSW_BASE BIT(12)
 #define PAGE_0 (3 * 4096)
 #define START 0x200
-#define NOT_TOUCHED 0x5555555555555555u
 
 static struct machine guest(const uint8_t *text, size_t len)
 {
@@ -23,27 +16,6 @@ static struct machine guest(const uint8_t *text, size_t len)
     put32(m.storage.at + 8196, 0x400);
     memcpy(m.storage.at + PAGE_0 + START, text, len);
     return m;
-}
-
-static uint32_t general(const struct machine *m, int i)
-{
-    return get32(m->record.at + AT_GENERAL + 4 * i);
-}
-
-static void put_general(struct machine *m, int i, uint32_t value)
-{
-    put32(m->record.at + AT_GENERAL + 4 * i, value);
-}
-
-static uint64_t run(struct machine *m, uint64_t clock, uint32_t time, uint32_t budget, uint64_t *where)
-{
-    return drevokas_run(m->record.at, m->record.len, m->storage.at, m->storage.len, m->keys.at, m->keys.len,
-                        m->designation, clock, time, budget, where);
-}
-
-static uint64_t ended(uint32_t kind, uint32_t number, uint32_t units)
-{
-    return answer_of(kind, number) | units;
 }
 
 static const uint8_t add_loop[] = {0x1a, 0x12, 0x47, 0xf0, 0x02, 0x00}; /* AR 1,2; BC 15,X'200' */
@@ -78,36 +50,24 @@ static void test_stop(void)
     discard(&m);
 }
 
-static void expect_refused(struct machine *m, uint32_t time, uint32_t budget, uint32_t number)
-{
-    uint64_t where = NOT_TOUCHED;
-
-    remember(&m->record);
-    remember(&m->storage);
-    remember(&m->keys);
-    EXPECT(run(m, 0, time, budget, &where) == ended(DREVOKAS_REFUSED, number, 0));
-    EXPECT(where == NOT_TOUCHED);
-    EXPECT(unchanged(&m->record) && unchanged(&m->storage) && unchanged(&m->keys));
-}
-
 static void test_refusals(void)
 {
     struct machine m = guest(add_loop, sizeof add_loop);
 
-    expect_refused(&m, 0, 65536, DREVOKAS_REFUSAL_BUDGET);
-    expect_refused(&m, 1048577, 1, DREVOKAS_REFUSAL_TIME);
+    RUN_REFUSED(&m, 0, 65536, DREVOKAS_REFUSAL_BUDGET);
+    RUN_REFUSED(&m, 1048577, 1, DREVOKAS_REFUSAL_TIME);
     m.record.at[AT_RESERVED + 5] = 1;
-    expect_refused(&m, 1, 1, DREVOKAS_REFUSAL_RESERVED);
+    RUN_REFUSED(&m, 1, 1, DREVOKAS_REFUSAL_RESERVED);
     resize(&m.keys, 7);
-    expect_refused(&m, 1, 1, DREVOKAS_REFUSAL_KEYS);
+    RUN_REFUSED(&m, 1, 1, DREVOKAS_REFUSAL_KEYS);
     resize(&m.storage, 0);
-    expect_refused(&m, 1, 1, DREVOKAS_REFUSAL_STORAGE);
+    RUN_REFUSED(&m, 1, 1, DREVOKAS_REFUSAL_STORAGE);
     m.record.at[AT_VERSION] = 2;
-    expect_refused(&m, 1, 1, DREVOKAS_REFUSAL_VERSION);
+    RUN_REFUSED(&m, 1, 1, DREVOKAS_REFUSAL_VERSION);
     resize(&m.record, 199);
-    expect_refused(&m, 1, 1, DREVOKAS_REFUSAL_LENGTH);
+    RUN_REFUSED(&m, 1, 1, DREVOKAS_REFUSAL_LENGTH);
     resize(&m.record, 0);
-    expect_refused(&m, 1, 1, DREVOKAS_REFUSAL_LENGTH);
+    RUN_REFUSED(&m, 1, 1, DREVOKAS_REFUSAL_LENGTH);
     discard(&m);
 }
 
@@ -119,12 +79,10 @@ static void test_host_fault(void)
     uint64_t where = 0;
 
     put_general(&m, 1, 0x11223344);
-    remember(&m.record);
-    remember(&m.storage);
-    remember(&m.keys);
+    remember_all(&m);
     EXPECT(run(&m, 0, 1, 9, &where) == ended(DREVOKAS_HOST_FAULT, DREVOKAS_PAGE_TRANSLATION, 0));
     EXPECT(where == 4096);
-    EXPECT(unchanged(&m.record) && unchanged(&m.storage) && unchanged(&m.keys));
+    EXPECT(all_unchanged(&m));
     put32(m.storage.at + 8196, 0x5000);
     EXPECT(run(&m, 0, 1, 1, &where) == ended(DREVOKAS_BUDGET_USED, 0, 1));
     EXPECT(m.storage.at[PAGE_0 + 0xfff] == 0x11 && m.storage.at[5 * 4096] == 0x22 && m.storage.at[5 * 4096 + 2] == 0x44);

@@ -1,8 +1,9 @@
 #!/usr/bin/env python3
 """make.py DIR: writes case files NAME.in into DIR, each with the line NAME.out that the program `case` prints for it.
 
-Every line follows from document 01. A guest program that finds what it should ends at DIAGNOSE (code 4); one that
-does not goes to BAD, where an operation exception leads to a wait, so that the code in the line differs.
+Every line follows from document 01, and for System/370 guests from request 1/12. A guest program that finds what it
+should ends at DIAGNOSE (code 4); one that does not goes to BAD, where an operation exception leads to a wait, so that
+the code in the line differs.
 """
 import os
 import struct
@@ -19,6 +20,8 @@ A31 = 0x80000000  # PSW bit 32, in the second word
 INVALID, PROTECTED = 0x400, 0x200  # page entry bits 21 and 22
 DAT, IO, EXTERNAL, WAIT, PROBLEM, OVERFLOW = 0x04000000, 0x02000000, 0x01000000, 0x00020000, 0x00010000, 0x0800
 COMPARATOR, TIMER, LOW, FORMAT = 0x800, 0x400, 0x10000000, 0x00B00000  # CR0 bits 20, 21, 3, and 8-12 as 10110
+INTERVAL = 0x80  # CR0 bit 24
+FULL = 40959999  # the largest residue
 
 
 # Instructions and PSWs, in hex
@@ -83,13 +86,15 @@ WAITING = f"{psw(WAIT, A31):016x}"
 
 FIELDS = {"length": (0, "H"), "version": (2, "B"), "v": (3, "B"), "mode": (4, "B"), "control": (5, "B"), "lctl": (6, "H"),
           "prefix": (8, "I"), "origin": (12, "H"), "extent": (14, "H"), "psw": (16, "Q"), "timer": (24, "Q"),
-          "comparator": (32, "Q"), "epoch": (40, "Q"), "svc": (48, "I"), "byte66": (66, "B"), "byte71": (71, "B")}
+          "comparator": (32, "Q"), "epoch": (40, "Q"), "svc": (48, "I"), "byte66": (66, "B"), "byte71": (71, "B"),
+          "request": (200, "B"), "byte201": (201, "B"), "byte203": (203, "B"), "residue": (204, "I")}
 
 
-def record(cr=(), gr=(), **fields):
+def record(cr=(), gr=(), size=200, **fields):
     """A record whose entry is good: mode 08 hex, origin 0, extent 1, prefix 0. An SVC field is flags and three numbers."""
-    r = bytearray(200)
-    for name, value in {"length": 200, "version": 1, "mode": 8, "extent": 1, "psw": psw(), **fields}.items():
+    r = bytearray(size)
+    default = {"length": size, "version": 1 if size == 200 else 2, "mode": 8, "extent": 1, "psw": psw()}
+    for name, value in {**default, **fields}.items():
         place, form = FIELDS[name]
         struct.pack_into(">" + form, r, place, value % 2 ** 64)
     for start, registers in (72, cr), (136, gr):
@@ -513,6 +518,222 @@ add("prefix_exchanges", "I 4 6", word(0x400, 14) + word(0x400, 15, 2) + END, at=
 add("prefix_guest_tables", "I 4 0", at=TEXT, prefix=0x1000, psw=psw(DAT), cr={0: FORMAT}, **AWAY, **TWO,
     mem={0x1000: hexes(0x1C0), 0x11C0: hexes(0x1000)})  # virtual 0 is real 1000 hex, absolute 0
 add("prefix_new_psw", "I 28 1", "0000", at=0x1000 | TEXT, prefix=0x1000, mem={0x68: "", 0x1068: WAITING}, **TWO)
+
+# System/370 guests: the record
+
+BC_WAIT = hexes(WAIT, 0)
+
+
+def basic(flags=0, right=TEXT):
+    """A BC PSW."""
+    return flags << 32 | right
+
+
+def extended(flags=0, right=TEXT):
+    """An EC PSW: bit 12 one."""
+    return psw(flags, right)
+
+
+def guest(mem=(), **given):
+    """A System/370 guest with a BC PSW; its new PSWs are BC PSWs that wait."""
+    return {"size": 208, "mode": 4, "psw": basic(), "mem": {0x60: BC_WAIT, 0x68: BC_WAIT, **dict(mem)}, **given}
+
+
+def system370(name, **given):
+    add("system370_" + name, **guest(**given))
+
+
+def long(**given):
+    return stop(r=record(**{"size": 208, "mode": 4, "v": 0x04, **given}))
+
+
+keep("system370_stop", "I 40 0", long())
+keep("system370_no_budget", "B 0 0", stop(r=record(size=208, mode=4, v=0x04), budget=0))
+keep("system370_largest", "I 40 0", stop(8, r=record(size=208, mode=4, v=0x04)))
+keep("long_record_mode_10", "I 40 0", long(mode=8))
+keep("long_record_version_1", "R 2", long(version=1))
+keep("long_record_length_field_200", "R 9", long(length=200))
+keep("long_record_length_field_200_count_1", "R 9", long(length=200, request=1))
+keep("long_record_length_field_207", "R 9", long(length=207))
+keep("short_record_length_field_208", "R 9", stop(r=record(length=208)))
+keep("byte_201_used", "R 7", long(byte201=1))
+keep("byte_203_used", "R 7", long(byte203=0x80))
+keep("byte_201_used_mode_10", "R 7", long(byte201=1, mode=8))
+keep("residue_out_of_range", "R 7", long(residue=FULL + 1))
+keep("residue_out_of_range_inactive", "R 7", long(residue=2 ** 32 - 1, mode=5))
+keep("residue_largest", "I 40 0", long(residue=FULL))
+keep("long_record_version_before_byte_201", "R 2", long(version=3, byte201=1))
+keep("long_record_malformed_no_frame_count", "R 9", struct.pack(">I", 227) + long()[4:231])
+keep("long_record_malformed_byte_after", "R 9", long() + b"\0")
+
+# Entry
+
+add("entry_mode_04_short_record", "I 32 0", mode=4)
+for mode in 0x00, 0x0C, 0x06:
+    system370(f"entry_mode_{mode:02x}", line="I 32 0", mode=mode)
+system370("entry_mode_bits_ignored", line="I 4 0", mode=0xF5)
+system370("entry_prefix_bit_7", line="I 32 0", prefix=0x01000000, extent=512)
+system370("entry_prefix_bit_1", line="I 32 0", prefix=0x40000000, extent=32768)
+add("entry_prefix_bit_7_mode_10", "H 16 0", size=208, prefix=0x01000000, extent=512)
+system370("entry_prefix_bits_ignored", line="I 4 0", prefix=0x80000FFF)
+system370("entry_prefix_over_extent", line="I 32 0", prefix=0x10000)
+
+# What a PSW means
+
+system370("bc", line="I 4 0")
+system370("ec", line="I 4 0", psw=extended())
+system370("bc_every_mask_and_code", line="I 4 0", psw=basic(0xFF04FFFF, 0xFF000200))
+system370("bc_wait", line="I 28 0", psw=basic(WAIT))
+system370("ec_wait", line="I 28 0", psw=extended(WAIT))
+for name, form in ("bc", basic), ("ec", extended):
+    system370(name + "_problem_state", line="I 8 0", text=lpsw(0x60), psw=form(PROBLEM), control=0x40)
+    system370(name + "_key", line="I 8 0", text=st(1, 0x400), psw=form(0x00100000), keys=[0x20], control=0x40)
+    system370(name + "_low_address", line="I 8 0", text=st(1, 0x1FF), psw=form(), cr={0: LOW}, control=0x40)
+    system370(name + "_sum_code", line="I 4 2", text=ar(1, 2) + need(8) + END, psw=form(), gr={1: 1, 2: 0xFFFFFFFF})
+    system370(name + "_sum_overflows", line="I 4 2", text=ar(1, 2) + need(1) + END, psw=form(), gr={1: 0x7FFFFFFF, 2: 1})
+    system370(name + "_stck_code_0", line="I 4 2", text=stck(0x400) + need(8) + END, psw=form(0x3000, TEXT))
+system370("bc_condition_code", line="I 4 1", text=need(1) + END, psw=basic(0, 0x30000000 | TEXT))
+system370("bc_bits_18_19_are_no_code", line="I 4 1", text=need(8) + END, psw=basic(0x3000))
+system370("ec_condition_code", line="I 4 1", text=need(1) + END, psw=extended(0x3000))
+OVER = {"text": ar(1, 2) + END, "gr": {1: 0x7FFFFFFF, 2: 1}, "control": 0x40}
+system370("bc_overflow_bit_36", line="I 8 0", psw=basic(0, 0x08000000 | TEXT), **OVER)
+system370("bc_overflow_not_bit_20", line="I 4 1", psw=basic(OVERFLOW), **OVER)
+system370("ec_overflow_bit_20", line="I 8 0", psw=extended(OVERFLOW), **OVER)
+for n in 1, 5, 16:
+    system370(f"ec_bit_{n}", line="I 32 0", psw=extended(0x80000000 >> n))
+    system370(f"bc_bit_{n}", line="I 4 0", psw=basic(0x80000000 >> n))
+for n in 0, 2, 3, 4, 17, 24, 31:
+    system370(f"ec_malformed_bit_{n}", line="I 8 0", psw=extended(0x80000000 >> n), control=0x40)
+    system370(f"bc_bit_{n}", line="I 4 0", psw=basic(0x80000000 >> n), control=0x40)
+for n in 32, 33, 39:
+    system370(f"ec_malformed_bit_{n}", line="I 8 0", psw=extended(0, 0x80000000 >> n - 32 | TEXT), control=0x40)
+    system370(f"bc_bit_{n}", line="I 4 0", psw=basic(0, 0x80000000 >> n - 32 | TEXT), control=0x40)
+system370("order_ec_bit_16_bit_0", line="I 32 0", psw=extended(0x80008000), control=0x40)
+system370("order_stop_dat", line="I 40 0", psw=extended(DAT), v=0x04)
+system370("order_budget_dat", line="B 0 1", text=lpsw(0x400), mem={0x400: f"{extended(DAT):016x}"}, budget=1)
+system370("dat_by_lpsw", line="I 32 1", text=lpsw(0x400), mem={0x400: f"{extended(DAT):016x}"})
+system370("lpsw_bc_to_ec", line="I 4 2", text=lpsw(0x400), mem={0x400: f"{extended(0x3000, 0x500):016x}", 0x500: need(1) + END})
+system370("lpsw_ec_to_bc", line="I 4 2", text=lpsw(0x400), psw=extended(),
+    mem={0x400: f"{basic(0, 0x30000500):016x}", 0x500: need(1) + END})
+system370("ec_malformed_by_lpsw", line="I 28 2", text=lpsw(0x400), mem={0x400: f"{extended(0x4000):016x}"})
+for right in 0x200, 0xC0000200:
+    system370(f"la_24_{right:08x}", line="I 4 3", text=la(1, 1, 2) + same(1, 15) + END, psw=basic(0, right),
+              gr={2: 0x00FFFFFF, 15: 0})
+system370("branch_24", line="I 4 1", text=bcr(15, 2), psw=basic(0, 0x80000200), gr={2: 0xFF000000 | OK})
+for n in range(7):
+    system370(f"bc_channel_{n}", line="I 24 0", psw=basic(0x80000000 >> n), v=0x02)
+system370("bc_channels_masked", line="I 4 0", psw=basic(EXTERNAL), v=0x02)
+system370("ec_io_mask", line="I 24 0", psw=extended(IO), v=0x02)
+system370("ec_io_masked", line="I 4 0", psw=extended(EXTERNAL), v=0x02)
+for name, form in ("bc", basic), ("ec", extended):
+    system370(name + "_external_request", line="I 16 0", psw=form(EXTERNAL), v=0x01)
+    system370(name + "_comparator", line="I 20 0", psw=form(EXTERNAL), clock=1, cr={0: COMPARATOR})
+    system370(name + "_timer", line="I 20 0", psw=form(EXTERNAL), timer=-1, cr={0: TIMER})
+
+# Interruptions: 136-147 keep what they have where the old PSW is BC
+
+KEPT = 0x5A5A5A5A
+
+
+def presented(name, line, place, left, right, fields, code, new=0x68, **given):
+    """An interruption to a handler, which looks at the old PSW's two words and at the word of the code fields."""
+    handler = word(place, 12) + word(place + 4, 13) + word(fields, 14) + END
+    mem = {new: hexes(0, HANDLER), HANDLER: handler, 136: hexes(KEPT, KEPT, KEPT), **given.pop("mem", {})}
+    system370(name, line=line, mem=mem, gr={12: left, 13: right, 14: code, **given.pop("gr", {})}, **given)
+
+
+presented("bc_svc", "I 4 10", 32, 0xFF0400FE, 0x7F000202, 136, KEPT, 0x60, text=svc(0xFE), psw=basic(0xFF04FFFF, 0xFF000200))
+presented("ec_svc", "I 4 10", 32, 0x00083000, 0x202, 136, 0x000200FE, 0x60, text=svc(0xFE), psw=extended(0x3000))
+presented("bc_svc_after_branch", "I 4 11", 32, 5, 0x7F000502, 136, KEPT, 0x60, text=bc(15, 0x500),
+          psw=basic(0, 0x3F000200), mem={0x500: svc(5)})
+for length, text in (1, "0000"), (2, "40000000"), (3, "d20000000000"):
+    presented(f"bc_operation_length_{length}", "I 4 10", 40, 1, length << 30 | TEXT + 2 * length, 140, KEPT, text=text)
+    presented(f"ec_operation_length_{length}", "I 4 10", 40, 0x00080000, TEXT + 2 * length, 140, length << 17 | 1, text=text,
+              psw=extended())
+presented("bc_odd_address", "I 4 10", 40, 6, 0x40000203, 140, KEPT, psw=basic(0, 0x201))
+presented("bc_addressing_text", "I 4 10", 40, 5, 0x40010002, 140, KEPT, psw=basic(0, 0x10000))
+presented("bc_overflow_code_3", "I 4 10", 40, 8, 0x78000202, 140, KEPT, text=ar(1, 2), psw=basic(0, 0x08000200),
+          gr={1: 0x7FFFFFFF, 2: 1})
+presented("ec_malformed", "I 4 10", 40, 0x00084000, 0x200, 140, 6, psw=extended(0x4000))
+presented("bc_old_psw_of_24_bits", "I 4 10", 40, 6, 0x40000001, 140, KEPT, psw=basic(0, 0x00FFFFFF))
+
+# Opcodes
+
+for op in 0x9C00, 0x9D01, 0x9E00, 0x9FFF:
+    system370(f"mandatory_{op:04x}", line="I 4 0", text=s(op, 0))
+    system370(f"problem_state_{op:04x}", line="I 8 0", text=s(op, 0), psw=basic(PROBLEM), control=0x40)
+    add(f"operation_{op:04x}", "I 44 0", s(op, 0), control=0x80)
+    add(f"long_record_operation_{op:04x}", "I 44 0", s(op, 0), control=0x80, size=208)
+for op in 0x9B00, 0xA000:
+    system370(f"operation_{op:04x}", line="I 44 0", text=s(op, 0), control=0x80)
+for op in 0xB230, 0xB236, 0xB23C:
+    system370(f"operation_{op:04x}", line="I 44 0", text=s(op, 0), control=0x80)
+    system370(f"operation_before_privileged_{op:04x}", line="I 44 0", text=s(op, 0), psw=basic(PROBLEM), control=0xC0)
+    add(f"long_record_mandatory_{op:04x}", "I 4 0", s(op, 0), size=208)
+for op in 0x8300, 0xAE00:
+    system370(f"mandatory_{op:04x}", line="I 4 0", text=s(op, 0))
+
+# The interval timer: T
+
+T = {"request": 0x80, "cr": {0: INTERVAL}}
+for name, form in ("bc", basic), ("ec", extended):
+    system370(name + "_t", line="I 20 0", psw=form(EXTERNAL), **T)
+    system370(name + "_t_psw_bit_7_zero", line="I 4 0", psw=form(), **T)
+    system370(name + "_t_external_request", line="I 20 0", psw=form(EXTERNAL), v=0x03, **T)
+    system370(name + "_t_wait", line="I 20 0", psw=form(EXTERNAL | WAIT), **T)
+system370("t_cr0_bit_24_zero", line="I 4 0", psw=basic(EXTERNAL), request=0x80)
+system370("t_cr0_bit_24_zero_external_request", line="I 16 0", psw=basic(EXTERNAL), request=0x80, v=0x01)
+system370("t_inactive", line="I 4 0", psw=basic(EXTERNAL), mode=5, **T)
+add("t_mode_10", "I 4 0", size=208, psw=psw(EXTERNAL), **T)
+system370("t_bits_1_to_7", line="I 4 0", psw=basic(EXTERNAL), request=0x7F, cr={0: INTERVAL})
+system370("t_budget", line="B 0 1", text=lpsw(0x400), mem={0x400: f"{basic(EXTERNAL):016x}"}, budget=1, **T)
+system370("t_malformed_first", line="I 8 0", psw=extended(EXTERNAL | 0x4000), control=0x40, **T)
+system370("t_dat_first", line="I 32 0", psw=extended(EXTERNAL | DAT), **T)
+
+# The interval timer: residue and word. Reading the word takes three units
+
+
+def timed(name, line, word_before, text=END, residue=FULL, mem=(), **given):
+    system370("timer_" + name, line=line, text=text, residue=residue, mem={80: hexes(word_before), **dict(mem)}, **given)
+
+
+READ = word(80, 15) + END
+timed("falls", "I 4 4", 0x300, lr(2, 3) + READ, gr={15: 0x200})
+timed("falls_at_the_period", "I 4 4", 0x300, lr(2, 3) + READ, residue=FULL - 2, gr={15: 0x200})
+timed("not_below_the_period", "I 4 4", 0x300, lr(2, 3) + READ, residue=FULL - 3, gr={15: 0x300})
+timed("second_unit", "I 4 5", 0x300, lr(2, 3) + lr(2, 3) + READ, residue=FULL - 3, gr={15: 0x200})
+timed("read_in_the_unit", "I 4 3", 0x300, READ, gr={15: 0x300})
+timed("stored_in_the_unit", "I 4 4", 0x300, st(2, 80) + READ, gr={2: 0x1000, 15: 0xF00})
+timed("stored_in_part", "I 4 4", 0x300, st(2, 78) + READ, gr={2: 0x00001234, 15: 0x12340200})
+timed("wraps", "I 4 4", 0x80000010, lr(2, 3) + READ, gr={15: 0x7FFFFF10})
+timed("inactive", "I 4 4", 0x300, lr(2, 3) + READ, mode=5, gr={15: 0x300})
+timed("time_0", "I 4 4", 0x300, lr(2, 3) + READ, time=0, gr={15: 0x300})
+add("long_record_timer_mode_10", "I 4 4", lr(2, 3) + READ, size=208, residue=FULL, mem={80: hexes(0x300)}, gr={15: 0x300})
+timed("low_address_and_key", "I 4 4", 0x300, lr(2, 3) + READ, cr={0: LOW}, psw=basic(0x00100000), keys=[0x20], gr={15: 0x200})
+timed("prefixed", "I 4 4", 0x300, lr(2, 3) + READ, at=0x1000 | TEXT, prefix=0x1000,
+      mem={0x1000 | 80: hexes(0x700)}, gr={15: 0x600}, **TWO)
+ON = {"psw": basic(EXTERNAL), "cr": {0: INTERVAL}}
+for before, line in (0, "I 20 1"), (255, "I 20 1"), (256, "I 4 1"), (0x80000100, "I 4 1"), (0x80000000, "I 4 1"), \
+        (0x800000FF, "I 4 1"), (0xFFFFFFFF, "I 4 1"), (0x7FFFFFFF, "I 4 1"):
+    timed(f"word_{before:08x}", line, before, lr(2, 3) + END, **ON)
+timed("word_00000000_ec", "I 20 1", 0, lr(2, 3) + END, psw=extended(EXTERNAL), cr={0: INTERVAL})
+timed("t_waits_for_the_mask", "I 20 3", 0, lr(2, 3) + lr(2, 3) + lpsw(0x400), mem={0x400: f"{basic(EXTERNAL):016x}"},
+      cr={0: INTERVAL})
+timed("largest_time", "I 20 14", 0, bc(15, TEXT), residue=0, time=1048576, **ON)
+timed("largest_time_two_falls", "I 20 27", 256, bc(15, TEXT), residue=0, time=1048576, **ON)
+timed("svc_is_a_unit", "I 20 1", 0, svc(1), mem={0x60: hexes(EXTERNAL, HANDLER)}, cr={0: INTERVAL})
+timed("malformed_psw_is_a_unit", "I 20 1", 0, psw=extended(0x4000), mem={0x68: hexes(EXTERNAL, HANDLER)}, cr={0: INTERVAL})
+timed("an_exit_is_none", "I 4 0", 0, END, **ON)
+
+# The interval timer: host faults at its word. The prefix page is at SPOT, so that real SPOT is absolute 0
+
+for code, entry in FAULTS.items():
+    gone = {"prefix": SPOT, "psw": basic(0, SPOT | TEXT), "spot": entry, "extent": 17, "gr": {2: SPOT}}
+    timed(f"host_{code}", f"H {code} 3", 0, bc(15, TEXT, 2), residue=FULL - 9, **gone)
+    timed(f"host_{code}_store", f"H {code} 0", 0, st(1, 0x400, 2), **gone)
+    timed(f"host_{code}_not_for_an_exit", "I 4 0", 0, END, **gone)
+    timed(f"host_{code}_after_a_program_exception", "I 8 0", 0, "0000", control=0x40, **gone)
+    timed(f"host_{code}_inactive", "B 0 100", 0, bc(15, TEXT, 2), mode=5, **gone)
 
 
 def main():

@@ -1,7 +1,7 @@
 #!/bin/sh
 # Mutates the model in many small ways and checks that `compare`, with its default cases and seed, finds each; those of request
 # 1/12 must be found by tests/system_370.rs too. Not in the gate. Takes some minutes. With arguments: only the mutants whose names
-# contain one of these words. A library that does not take the record of 208 bytes gives place to the model itself, standin.rs.
+# contain one of these words.
 set -u
 . "$(dirname "$0")/../../tools/plain.sh"
 package=$(cd "$(dirname "$0")" && pwd)
@@ -11,14 +11,9 @@ export DREVOKAS_LIB CARGO_TARGET_DIR
 scratch=$(mktemp -d) || exit 2
 trap 'rm -rf "$scratch"' EXIT
 mkdir "$scratch/package"
-cp -R "$package/src" "$package/tests" "$package/build.rs" "$package/standin.rs" "$package/Cargo.toml" "$scratch/package/"
+cp -R "$package/src" "$package/tests" "$package/build.rs" "$package/Cargo.toml" "$scratch/package/"
 cd "$scratch/package" || exit 2
 cargo build --release --offline --quiet --bin compare || exit 2
-if target/release/compare 0 | grep -q 'does not take the record of 208 bytes'; then
-    echo 'the library does not take the record of 208 bytes: the model stands in for it'
-    DREVOKAS_LIB=$scratch
-    rustc --edition 2021 -O --crate-type staticlib --crate-name drevokas -o "$scratch/libdrevokas.a" standin.rs || exit 2
-fi
 cp src/model.rs "$scratch/model.rs"
 wanted="$*"
 caught=0

@@ -298,7 +298,7 @@ class Environment(unittest.TestCase):
 
     def test_scripts(self):
         self.assertEqual(self.call("sh", os.path.join(ROOT, "examples/run.sh")), (0, Build.DEMO))
-        self.assertEqual(self.call("sh", os.path.join(ROOT, "examples/check.sh")), (0, "4 examples, 0 differ\n"))
+        self.assertEqual(self.call("sh", os.path.join(ROOT, "examples/check.sh")), (0, "5 examples, 0 differ\n"))
         status, printed = self.call("sh", os.path.join(ROOT, "tests/cases/run.sh"))
         self.assertEqual((status, printed.split(", ")[1]), (0, "0 differ\n"), printed)
         status, printed = self.call("python3", os.path.join(ROOT, "tests/docs/check.py"), os.path.join(ROOT, "README.md"))
@@ -306,7 +306,7 @@ class Environment(unittest.TestCase):
 
     def test_prologue(self):
         """Each script that a person may call reads tools/plain.sh before it does anything."""
-        others = {"tools/plain.sh", "tools/group.sh", "tools/progress.sh", "bench/library.sh"}
+        others = {"tools/plain.sh", "tools/group.sh", "tools/progress.sh", "bench/library.sh", "examples/begin.sh"}
         for folder, _, files in os.walk(ROOT):
             for name in files if not os.path.relpath(folder, ROOT).startswith(("target", ".git")) else []:
                 script = os.path.relpath(os.path.join(folder, name), ROOT)

@@ -103,7 +103,7 @@ pub fn subtract(a: u32, b: u32) -> Sum
     }
 }
 
-// A sum put into general register i, and its condition code into bits 18 and 19 of the PSW.
+// A sum put into general register i, and its condition code into the PSW.
 fn with_sum(cpu: Cpu, i: u32, sum: Sum) -> Cpu
     requires { ⌜ (i < 16) × (sum .code ≡ sumCode (sum .value) (sum .overflow)) ⌝ }
     ensures { λ r. ⌜ r ≡ withSum cpu i (sum .value) (sum .overflow) ⌝ }

@@ -10,9 +10,10 @@ use Rattle.machine.specs.declared.TableEntry.{TableEntry}
 use Rattle.machine.specs.declared.TableEntry.the-variants.{Word, Unread}
 use Rattle.machine.specs.declared.Walk.{Walk}
 use Rattle.machine.specs.declared.Walk.the-variants.{Page, Failed}
+use Rattle.machine.specs.Words.{bits, bit}
 use Rattle.machine.specs.Sizes.{pageBytes, blockBytes}
 use Rattle.machine.specs.Entry.{extentBytes}
-use Rattle.machine.specs.Psw.{control}
+use Rattle.machine.specs.Psw.{datOn, accessKey, control}
 use Rattle.machine.specs.Failures.{addressing, hostFault, walkException}
 use Rattle.machine.specs.Walk.{pageProtected}
 use Rattle.machine.specs.Host.{hostVirtual}
@@ -20,12 +21,13 @@ use Rattle.address.specs.declared.Place.{Place}
 use Rattle.address.specs.declared.Place.the-variants.{At, Denied}
 use Rattle.address.specs.declared.Space.{Space}
 
--- the space is that of a guest and a CPU
+-- the space is that of a guest and a CPU; of the PSW's left word addressing asks DAT and the access key
 pub record Sees (s : Space) (g : Guest) (c : Cpu) : Type 0 where
   pub origin : s .origin ≡ g .origin * blockBytes
   pub extent : s .extent ≡ extentBytes g
   pub prefix : s .prefix ≡ g .prefix * pageBytes
-  pub left : s .left ≡ c .psw .left
+  pub dat : bit 32 5 (s .left) ≡ datOn c
+  pub key : bits 32 8 11 (s .left) ≡ accessKey c
   pub cr0 : s .cr0 ≡ control c 0
   pub cr1 : s .cr1 ≡ control c 1
 

@@ -6,10 +6,10 @@ ghost use mathlib.Core.List.{List};
 ghost use Prim.Native.Nat.{ℕ, _*_, _/_, _%_, _≤_, _<_};
 ghost use lib.ListN.{length};
 ghost use Rattle.machine.specs.declared.Cpu.{Cpu};
-ghost use Rattle.machine.specs.Words.{wordAt};
+ghost use Rattle.machine.specs.Words.{bits, bit, wordAt};
 ghost use Rattle.machine.specs.Refusals.{framesOf};
 ghost use Rattle.machine.specs.Failures.{isTranslation, exceptionOf, walkException};
-ghost use Rattle.machine.specs.Psw.{wrap, control};
+ghost use Rattle.machine.specs.Psw.{datOn, accessKey, wrap, control};
 ghost use Rattle.machine.specs.Walk.{pageIndex, frameOf, pageProtected, walkPage};
 ghost use Rattle.machine.specs.Host.{host, hostVirtual, inFrame, view};
 ghost use Rattle.machine.specs.Addresses.{prefixed, guestEntry, realPage, lowProtected};
@@ -56,7 +56,8 @@ fn both(x: bool, y: bool) -> bool
     false
 }
 
-// What addressing looks at: the guest's origin, extent and prefix in bytes, the PSW's left half, and control registers 0 and 1.
+// What addressing looks at: the guest's origin, extent and prefix in bytes, the PSW's left word as addressing looks at it, and control
+// registers 0 and 1.
 pub struct Space {
     pub origin: u32,
     pub extent: u32,
@@ -66,15 +67,27 @@ pub struct Space {
     pub cr1: u32,
 }
 
-pub fn space_of(guest: Guest, left: u32, cr0: u32, cr1: u32) -> Space
+// The PSW's left word as addressing looks at it: its access key, and bit 5 as DAT. A BC PSW has none: its bit 5 is a channel's mask.
+fn addressing_left(psw: Psw) -> u32
+    ensures { λ r. ⌜ ((c : Cpu) → psw ≡ c .psw → (bit 32 5 r ≡ datOn c) × (bits 32 8 11 r ≡ accessKey c)) ⌝ }
+{
+    if psw.system370 {
+        if psw.left / 524288 % 2 != 1 {
+            return psw.left / 134217728 * 134217728 + psw.left % 67108864;
+        }
+    }
+    psw.left
+}
+
+pub fn space_of(guest: Guest, psw: Psw, cr0: u32, cr1: u32) -> Space
     requires { ⌜ Entered guest ⌝ }
-    ensures { λ r. ⌜ Fits r × ((c : Cpu) → left ≡ c .psw .left → cr0 ≡ control c 0 → cr1 ≡ control c 1 → Sees r guest c) ⌝ }
+    ensures { λ r. ⌜ Fits r × ((c : Cpu) → psw ≡ c .psw → cr0 ≡ control c 0 → cr1 ≡ control c 1 → Sees r guest c) ⌝ }
 {
     Space {
         origin: guest.origin as u32 * 65536,
         extent: guest.extent as u32 * 65536,
         prefix: guest.prefix * 4096,
-        left,
+        left: addressing_left(psw),
         cr0,
         cr1,
     }
@@ -233,6 +246,13 @@ fn from_segment_entry(storage: &[u8], designation: u32, space: Space, a: u32, re
     from_page_entry(storage, designation, space, next as u32, segment)
 }
 
+// DAT is on, by the left word as addressing looks at it.
+fn dat_on(left: u32) -> bool
+    ensures { λ r. ⌜ r ≡ bit 32 5 left ⌝ }
+{
+    left / 67108864 % 2 == 1
+}
+
 // The real page of a logical address.
 fn real_page(storage: &[u8], designation: u32, space: Space, a: u32) -> Real
     requires { ⌜ Fits space ⌝ }
@@ -240,7 +260,7 @@ fn real_page(storage: &[u8], designation: u32, space: Space, a: u32) -> Real
     ensures { λ r. ⌜ ((g : Guest) (c : Cpu) → Sees space g c → (k : List ℕ)
         → realPage g (view g (host designation (now (storage .entry)) k)) c a ≡ pageIn a (r .page)) ⌝ }
 {
-    if space.left / 67108864 % 2 != 1 {
+    if !dat_on(space.left) {
         return without_segment((a / 4096 * 4096) as u64);
     }
     if space.cr0 / 524288 % 32 != 22 {
@@ -262,7 +282,7 @@ fn low_protected(cr0: u32, a: u32) -> bool
 
 // Guest page protection, then key protection, by the byte's key.
 fn guest_protects(left: u32, store: bool, protected: bool, key: u8) -> bool
-    ensures { λ r. ⌜ ((c : Cpu) → left ≡ c .psw .left → r ≡ guestProtects c store protected key) ⌝ }
+    ensures { λ r. ⌜ ((c : Cpu) → bits 32 8 11 left ≡ accessKey c → r ≡ guestProtects c store protected key) ⌝ }
 {
     if both(store, protected) {
         return true;
@@ -283,7 +303,7 @@ fn guest_protects(left: u32, store: bool, protected: bool, key: u8) -> bool
 // The last tests of a byte at a host virtual address, by the host page that was found for it.
 fn settle(keys: &[u8], left: u32, store: bool, protected: bool, v: u32, page: u64) -> u64
     requires { ⌜ frameOf page < length (now keys) ⌝ }
-    ensures { λ r. ⌜ ((g : Guest) (c : Cpu) (absolute a : ℕ) → left ≡ c .psw .left → v ≡ hostVirtual g absolute
+    ensures { λ r. ⌜ ((g : Guest) (c : Cpu) (absolute a : ℕ) → bits 32 8 11 left ≡ accessKey c → v ≡ hostVirtual g absolute
         → settled g (now (keys .entry)) store (guestProtects c store protected) absolute (Walk.Page (frameOf page) (pageProtected page)) ≡ placeIn a r) ⌝ }
 {
     let frame = (page / 4096 % 524288) as u32;
@@ -416,7 +436,7 @@ pub fn touch(
 {
     let cr0 = control.words[0];
     let cr1 = control.words[1];
-    let space = space_of(guest, psw.left, cr0, cr1);
+    let space = space_of(guest, psw, cr0, cr1);
     place_of(a, locate(storage, keys, designation, space, store, a))
 }
 
@@ -427,7 +447,7 @@ pub enum Operand {
 }
 
 // An operand of one page, by its first byte.
-fn one_page(n: u32, x: Place) -> Operand
+pub fn one_page(n: u32, x: Place) -> Operand
     ensures { λ r. ⌜ r ≡ inOnePage n x ⌝ }
 {
     match x {
@@ -480,14 +500,17 @@ fn two_pages(
     }
 }
 
-// A logical address, wrapped by PSW bit 32, whatever the control registers are.
+// A logical address, wrapped by PSW bit 32, at 24 bits in a System/370 PSW, whatever the control registers are.
 pub fn wrapped(psw: Psw, a: u32) -> u32
     ensures { λ r. ⌜ ((control : Registers) → r ≡ wrap (seen psw control) a) ⌝ }
 {
-    if psw.right / 2147483648 % 2 == 1 {
-        return a % 2147483648;
+    if psw.right / 2147483648 % 2 != 1 {
+        return a % 16777216;
     }
-    a % 16777216
+    if psw.system370 {
+        return a % 16777216;
+    }
+    a % 2147483648
 }
 
 // Where the operand of n bytes at a wrapped logical address stands in host storage, or why it cannot be reached.

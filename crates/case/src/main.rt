@@ -1,5 +1,5 @@
 // The program: reads one case file from standard input and prints the one line that it asks for. The run is drevokas_run, on copies of
-// the file's parts, and the line is proved to be that of the definition's answer. A file is at most 33,000 bytes; of a
+// the file's parts, and the line is proved to be that of the definition's answer. A file is at most 33,008 bytes; of a
 // longer input one byte more is read, and so it is malformed.
 ghost use mathlib.Core.Path.{_≡_};
 ghost use Prim.Native.Nat.{_≤_};
@@ -13,7 +13,7 @@ use libc::STDIN_FILENO;
 use libc::STDOUT_FILENO;
 use machine::Numbers;
 
-const ROOM: usize = 33001;
+const ROOM: usize = 33009;
 
 const FRAME: usize = 4096;
 
@@ -27,7 +27,7 @@ struct Input {
 }
 
 fn room() -> [u8; ROOM]
-    ensures { λ r. ⌜ 33001 ≡ length r ⌝ }
+    ensures { λ r. ⌜ 33009 ≡ length r ⌝ }
 {
     [0; ROOM]
 }
@@ -63,12 +63,13 @@ fn run_parts(file: &[u8], n: Numbers, count: usize) -> u64
     ensures { λ r. ⌜ r ≡ packedAnswer (answerOf (now (file .entry))) ⌝ }
 {
     let mut record = cases::record_of(file);
+    let long = cases::record_size(file);
     let mut keys = cases::keys_of(file, count);
     let mut frames = cases::storage_of(file, count);
     let used = count * FRAME;
     let mut place = 0;
     drevokas::drevokas_run(
-        &mut record,
+        &mut record[..long],
         &mut frames[..used],
         &mut keys[..count],
         n.designation,

@@ -2,7 +2,7 @@
 -- Assumes nothing.
 use Prim.Native.Nat.{ℕ, zero, suc, _%_}
 use native.Mathlib.Omega.{arith}
-use mathlib.Core.Bool.{Bool, true, false, _&&_}
+use mathlib.Core.Bool.{Bool, true, false, not, _&&_}
 use mathlib.Core.List.{List, [], _∷_}
 use lib.Dec.{eqb, ltb}
 use Rattle.machine.specs.declared.Class.{Class}
@@ -24,7 +24,9 @@ use Rattle.machine.specs.Outcomes.{Effects, Outcome, completed, intercepted, fa
 use Rattle.machine.specs.Interruptions.{Areas, interrupt, afterException, exception}
 use Rattle.machine.specs.Execute.{operandAddress, finish, fetching, storing, summed, branch, execute, loadRegister, add, subtract, branchRegister, branchIndexed, supervisorCall, loadAddress, store, load, loadPsw, storeControl, loadControl, storeClock, setTimer, storeTimer, interceptInstruction}
 use Rattle.machine.specs.Units.{intercepts, misaligned, decoded, halfword, reading, fetchThird, fetchSecond, started, instruction, unit}
-use Rattle.machine.specs.Run.{Machine, counted, onward, unitFrom, afterUnit, stepOf, step, run}
+use Rattle.machine.specs.Record.{guestOf, residueOf}
+use Rattle.machine.specs.Interval.{active, falls}
+use Rattle.machine.specs.Run.{Machine, goes, ends, counted, onward, unitFrom, afterUnit, wordAccesses, risenTo, fallenTo, ticked, stepOf, step, run}
 use Rattle.machine.proofs.Tests.{on-either-arm}
 use Rattle.address.proofs.Codes.{Coded, CodedCell, CodedAccess, coded-view, coded-real-access, coded-access}
 
@@ -60,9 +62,9 @@ reached-or-not (stopped f) small p q = p f small
 reached-or-not (all ls) small p q = q ls
 
 module _ (x : Progress) (cells : (a : ℕ) → CodedCell (x .view a)) where
-  coded-interrupt : (c : Cpu) (areas : Areas) (fields : List ℕ) → CodedOutcome (interrupt x c areas fields)
+  coded-interrupt : (c : Cpu) (areas : Areas) (code : ℕ) (fields : List ℕ) → CodedOutcome (interrupt x c areas code fields)
   unfolding interrupt
-  coded-interrupt c areas fields =
+  coded-interrupt c areas code fields =
       reached-or-not _ (coded-accesses _ (coded-real-access (x .guest) (x .view) cells true) _) (λ f small. faults small) λ stores.
       reached-or-not _ (coded-accesses _ (coded-real-access (x .guest) (x .view) cells false) _) (λ f small. faults small) λ fetched. completes
 
@@ -92,7 +94,7 @@ module _ (x : Progress) (cells : (a : ℕ) → CodedCell (x .view a)) where
   coded-execute Ar = coded-summed _ _
   coded-execute Sr = coded-summed _ _
   coded-execute Bcr = completes
-  coded-execute Svc = coded-interrupt _ _ _
+  coded-execute Svc = coded-interrupt _ _ _ _
   coded-execute La = completes
   coded-execute Bc = completes
   coded-execute St = coded-storing _ _ _
@@ -137,10 +139,10 @@ coded-instruction x cells =
     on-either-arm CodedOutcome (eqb (instructionAddress (x .cpu) % 2) 1) (coded-exception x cells (x .cpu) (exceptionOf specification) (omega arith))
     (reached-or-not _ (coded-halfword x cells 0) (coded-exception x cells (x .cpu)) λ first. coded-second _ cells)
 
-coded-unit : (g : Guest) (clock : ℕ) (v : ℕ → Cell) (c : Cpu) → ((a : ℕ) → CodedCell (v a)) → CodedOutcome (unit g clock v c)
+coded-unit : (g : Guest) (clock : ℕ) (requested : Bool) (v : ℕ → Cell) (c : Cpu) → ((a : ℕ) → CodedCell (v a)) → CodedOutcome (unit g clock requested v c)
 unfolding unit
-coded-unit g clock v c cells =
-    search (on-either-arm CodedOutcome, exits, coded-exception (started g clock v c 0) cells c (exceptionOf specification) (omega arith), coded-instruction (started g clock v c 1) cells) depth 9
+coded-unit g clock requested v c cells =
+    search (on-either-arm CodedOutcome, exits, coded-exception (started g clock v c 0) cells c (exceptionOf specification) (omega arith), coded-instruction (started g clock v c 1) cells) depth 10
 
 -- the run
 
@@ -149,12 +151,31 @@ CodedEnd (Intercepted r) = Unit {0}
 CodedEnd (HostFault f) = Coded f
 CodedEnd BudgetUsed = Unit {0}
 
+-- the interval timer's word
+coded-word : (n : Numbers) (m : Machine) → CodedAccesses (wordAccesses n m)
+unfolding wordAccesses
+coded-word n m = coded-accesses _ (coded-real-access (guestOf (m .description)) _ (coded-view _ _) true) _
+
 pub coded-run : (b : ℕ) (n : Numbers) (m : Machine) → CodedEnd (run b n m .end)
-unfolding run step onward stepOf counted unitFrom
+unfolding run step onward stepOf ticked whenReached counted unitFrom
 coded-run zero n m = tt
-coded-run (suc b) n m = by-outcome (λ after. coded-run b n after) (unitFrom n m) (coded-unit _ _ _ _ (coded-view _ _))
+coded-run (suc b) n m = by-outcome (λ after. coded-run b n after) (unitFrom n m) (coded-unit _ _ _ _ _ (coded-view _ _))
   where
-    by-outcome : ((after : Machine) → CodedEnd (run b n after .end)) → (o : Outcome) → CodedOutcome o → CodedEnd (onward (run b n) (stepOf n m o) .end)
-    by-outcome later (completed c e) completes = later (afterUnit n m c e)
+    Later : Type 0
+    Later = (after : Machine) → CodedEnd (run b n after .end)
+
+    by-word : Later → (after : Machine) (a : Accesses) → CodedAccesses a
+        → CodedEnd (onward (run b n) (whenReached a (λ f. ends (HostFault f) m) λ at. goes (fallenTo n m after at)) .end)
+    by-word later after (stopped f) small = small
+    by-word later after (all at) small = later (fallenTo n m after at)
+
+    by-tick : Later → (after : Machine) → CodedEnd (onward (run b n) (ticked n m after) .end)
+    by-tick later after =
+        on-either-arm (λ s. CodedEnd (onward (run b n) s .end)) (not (active (guestOf (m .description)))) (later after)
+        (on-either-arm (λ s. CodedEnd (onward (run b n) s .end)) (not (falls (residueOf (m .description)) (n .time))) (later (risenTo n m after))
+        (by-word later after (wordAccesses n m) (coded-word n m)))
+
+    by-outcome : Later → (o : Outcome) → CodedOutcome o → CodedEnd (onward (run b n) (stepOf n m o) .end)
+    by-outcome later (completed c e) completes = by-tick later (afterUnit n m c e)
     by-outcome later (intercepted r c) exits = tt
     by-outcome later (faulted f) (faults small) = small

@@ -1,4 +1,5 @@
 -- Case files: when one is well formed, where its parts stand, and the answer it asks for. Document 01, "Case file and worked examples".
+-- Request 1/12: the record's own length field gives its size.
 use Prim.Native.Nat.{ℕ, _+_, _*_}
 use mathlib.Core.Bool.{Bool, cond, _&&_}
 use mathlib.Core.List.{List}
@@ -8,7 +9,7 @@ use Rattle.machine.specs.declared.Answer.{Answer}
 use Rattle.machine.specs.declared.Answer.the-variants.{Refused}
 use Rattle.machine.specs.declared.Numbers.{Numbers}
 use Rattle.machine.specs.Operations.{runOf}
-use Rattle.machine.specs.Record.{recordLength}
+use Rattle.machine.specs.Record.{recordLength, longLength}
 use Rattle.machine.specs.Sizes.{frameBytes}
 use Rattle.machine.specs.Words.{byteAt, halfAt, wordAt, doubleAt}
 use Rattle.cases.specs.declared.Case.{Case}
@@ -34,11 +35,17 @@ budgetAt = 21
 abbrev pub recordAt : ℕ
 recordAt = 23
 
-abbrev pub countAt : ℕ
-countAt = 223
+-- the record has 208 bytes where its length field says so, else 200
+unfoldable pub recordSize : List ℕ → ℕ
+recordSize file = cond (eqb (halfAt file recordAt) longLength) longLength recordLength
 
-abbrev pub keysAt : ℕ
-keysAt = 224
+-- after the record
+
+abbrev pub countAt : List ℕ → ℕ
+countAt file = recordAt + recordSize file
+
+abbrev pub keysAt : List ℕ → ℕ
+keysAt file = countAt file + 1
 
 -- the length of the whole file, as its first four bytes say it: they are the length of the rest
 abbrev pub lengthSaid : List ℕ → ℕ
@@ -46,11 +53,11 @@ lengthSaid file = 4 + wordAt file 0
 
 -- the frame count
 abbrev pub countOf : List ℕ → ℕ
-countOf file = byteAt file countAt
+countOf file = byteAt file (countAt file)
 
 -- after the keys, one byte for each frame
 abbrev pub framesAt : List ℕ → ℕ
-framesAt file = keysAt + countOf file
+framesAt file = keysAt file + countOf file
 
 abbrev pub caseVersion : ℕ
 caseVersion = 1
@@ -78,10 +85,10 @@ numbersOf file = record {
 }
 
 abbrev pub recordOf : List ℕ → List ℕ
-recordOf file = take recordLength (drop recordAt file)
+recordOf file = take (recordSize file) (drop recordAt file)
 
 abbrev pub keysOf : List ℕ → List ℕ
-keysOf file = take (countOf file) (drop keysAt file)
+keysOf file = take (countOf file) (drop (keysAt file) file)
 
 abbrev pub storageOf : List ℕ → List ℕ
 storageOf file = drop (framesAt file) file

@@ -6,7 +6,7 @@ ghost use Prim.Native.Nat.{_+_, _*_, _≤_, _<_};
 ghost use mathlib.Core.List.{_++_, _∷_, []};
 ghost use lib.ListN.{length, take};
 ghost use Rattle.io.specs.Counts.{Counts};
-ghost use Rattle.cases.specs.CaseFile.{countOf, numbersOf, recordOf, keysOf, storageOf, wellFormed, caseOf};
+ghost use Rattle.cases.specs.CaseFile.{recordSize, countOf, numbersOf, recordOf, keysOf, storageOf, wellFormed, caseOf};
 ghost use Rattle.cases.specs.Line.{decimal, lineBytes, refusalLine, endLine, packedLine};
 use machine::Numbers;
 
@@ -22,9 +22,8 @@ const BUDGET: usize = 21;
 
 const RECORD: usize = 23;
 
-const COUNT: usize = 223;
-
-const KEYS: usize = 224;
+// A file with a byte for the frame count, whatever the record's size, is this long.
+const LEAST: usize = 224;
 
 const FRAME: usize = 4096;
 
@@ -32,7 +31,10 @@ const MOST_FRAMES: usize = 8;
 
 const MOST_BYTES: usize = 32768;
 
-const RECORD_BYTES: usize = 200;
+// The sizes of the record.
+const SHORT_RECORD: usize = 200;
+
+const LONG_RECORD: usize = 208;
 
 // Room for every line.
 pub const LINE: usize = 64;
@@ -51,19 +53,34 @@ pub enum Case {
     Good { numbers: Numbers, count: usize },
 }
 
+// The size of the record, which its length field gives.
+pub fn record_size(file: &[u8]) -> usize
+    requires { ⌜ 25 ≤ length (now file) ⌝ }
+    ensures { λ r. ⌜ r ≡ recordSize (now (file .entry)) ⌝ }
+{
+    if words::half_at(file, RECORD) as usize == LONG_RECORD {
+        return LONG_RECORD;
+    }
+    SHORT_RECORD
+}
+
 // A file is not malformed.
 fn well_formed(file: &[u8]) -> bool
     ensures { λ r. ⌜ r ≡ wellFormed (now (file .entry)) ⌝ }
 {
-    if file.len() < KEYS {
+    if file.len() < LEAST {
+        return false;
+    }
+    let at = RECORD + record_size(file);
+    if file.len() < at + 1 {
         return false;
     }
     let total = 4 + words::word_at(file, 0) as usize;
     if total != file.len() {
         return false;
     }
-    let count = file[COUNT] as usize;
-    if total != KEYS + count + count * FRAME {
+    let count = file[at] as usize;
+    if total != at + 1 + count + count * FRAME {
         return false;
     }
     if file[VERSION] != 1 {
@@ -88,6 +105,15 @@ fn numbers_of(file: &[u8]) -> Numbers
     }
 }
 
+// The frame count of a case file.
+fn count_of(file: &[u8]) -> usize
+    requires { ⌜ wellFormed (now file) ≡ true ⌝ }
+    ensures { λ r. ⌜ r ≡ countOf (now (file .entry)) ⌝ }
+{
+    let at = RECORD + record_size(file);
+    file[at] as usize
+}
+
 // Parses a case file.
 pub fn parse(file: &[u8]) -> Case
     ensures { λ r. ⌜ r ≡ caseOf (now (file .entry)) ⌝ }
@@ -95,19 +121,20 @@ pub fn parse(file: &[u8]) -> Case
     if well_formed(file) {
         return Case::Good {
             numbers: numbers_of(file),
-            count: file[COUNT] as usize,
+            count: count_of(file),
         };
     }
     Case::Malformed
 }
 
-// The record of a case file.
-pub fn record_of(file: &[u8]) -> [u8; RECORD_BYTES]
+// The record of a case file, at the start.
+pub fn record_of(file: &[u8]) -> [u8; LONG_RECORD]
     requires { ⌜ wellFormed (now file) ≡ true ⌝ }
-    ensures { λ r. ⌜ r ≡ recordOf (now (file .entry)) ⌝ }
+    ensures { λ r. ⌜ (length r ≡ 208) × (take (recordSize (now (file .entry))) r ≡ recordOf (now (file .entry))) ⌝ }
 {
-    let mut part = [0; RECORD_BYTES];
-    bytes::copy(&file[RECORD..COUNT], &mut part);
+    let mut part = [0; LONG_RECORD];
+    let end = RECORD + record_size(file);
+    bytes::copy(&file[RECORD..end], &mut part);
     part
 }
 
@@ -118,8 +145,9 @@ pub fn keys_of(file: &[u8], count: usize) -> [u8; MOST_FRAMES]
     ensures { λ r. ⌜ (length r ≡ 8) × (take count r ≡ keysOf (now (file .entry))) ⌝ }
 {
     let mut part = [0; MOST_FRAMES];
-    let end = KEYS + count;
-    bytes::copy(&file[KEYS..end], &mut part);
+    let at = RECORD + record_size(file) + 1;
+    let end = at + count;
+    bytes::copy(&file[at..end], &mut part);
     part
 }
 
@@ -137,7 +165,7 @@ pub fn storage_of(file: &[u8], count: usize) -> [u8; MOST_BYTES]
     ensures { λ r. ⌜ (length r ≡ 32768) × (take (count * 4096) r ≡ storageOf (now (file .entry))) ⌝ }
 {
     let mut part = room();
-    let at = KEYS + count;
+    let at = RECORD + record_size(file) + 1 + count;
     bytes::copy(&file[at..], &mut part);
     part
 }

@@ -1,18 +1,18 @@
 // Questions about the CPU and its next values, as the units ask them. Each contract equates with machine's Psw, Time, Execute and
 // Units, for every CPU, guest or unit in progress that has the parts handed in.
 ghost use mathlib.Core.Path.{_≡_};
-ghost use mathlib.Core.Bool.{_&&_, _||_};
-ghost use Prim.Native.Nat.{ℕ, _≤_, _<_};
+ghost use mathlib.Core.Bool.{true, false, _&&_, _||_};
+ghost use Prim.Native.Nat.{ℕ, _+_, _*_, _^_, _≤_, _<_};
 ghost use lib.Dec.{eqb, ltb};
 ghost use Rattle.machine.specs.declared.Cpu.{Cpu};
-ghost use Rattle.machine.specs.Words.{bit};
-ghost use Rattle.machine.specs.Psw.{ioEnabled, externalEnabled, waiting, problemState, conditionCode, overflowEnabled, instructionAddress, notInstalled, malformed, wrap, withAddress, advanced, withConditionCode};
+ghost use Rattle.machine.specs.Words.{bits, bit};
+ghost use Rattle.machine.specs.Psw.{basicControl, ioEnabled, externalEnabled, waiting, problemState, conditionCode, overflowEnabled, instructionAddress, notInstalled, leftMalformed, malformed, wrap, withAddress, advanced, withConditionCode, oldPsw};
 ghost use Rattle.machine.specs.Time.{guestClock, comparatorDue, timerDue, clockAfter, timerAfter};
 ghost use Rattle.machine.specs.Host.{Cell};
 ghost use Rattle.machine.specs.Outcomes.{Progress};
 ghost use Rattle.machine.specs.Execute.{addressPart, operandAddress, indexedAddress, selected, rangeCount};
 ghost use Rattle.machine.specs.Units.{interceptsSvc, interceptsLctl, misaligned, unit};
-ghost use Rattle.cpu.specs.Before.{comparatorInterrupts, timerInterrupts, externalRequest, ioRequest, unitAfter};
+ghost use Rattle.cpu.specs.Before.{comparatorInterrupts, timerInterrupts, intervalInterrupts, ioRequest, lastTests, externalTests, unitAfter};
 use machine::Guest;
 use machine::Psw;
 use machine::Reason;
@@ -30,6 +30,8 @@ pub enum Before {
 const COMPARATOR: u16 = 0x1004;
 
 const TIMER: u16 = 0x1005;
+
+const INTERVAL: u16 = 0x0080;
 
 // Both hold.
 fn both(x: bool, y: bool) -> bool
@@ -51,19 +53,49 @@ fn either(x: bool, y: bool) -> bool
     y
 }
 
+// The form of the PSW is BC.
+pub fn basic_control(psw: Psw) -> bool
+    ensures { λ r. ⌜ ((c : Cpu) → c .psw ≡ psw → r ≡ basicControl c) ⌝ }
+{
+    if psw.system370 {
+        return psw.left / 524288 % 2 != 1;
+    }
+    false
+}
+
+// The PSW of a System/370 guest asks for a facility that is not installed.
+fn not_installed_370(psw: Psw) -> bool
+    requires { ⌜ psw .system370 ≡ true ⌝ }
+    ensures { λ r. ⌜ ((c : Cpu) → c .psw ≡ psw → r ≡ notInstalled c) ⌝ }
+{
+    if psw.left / 524288 % 2 != 1 {
+        return false;
+    }
+    if psw.left / 1073741824 % 2 == 1 {
+        return true;
+    }
+    if psw.left / 67108864 % 2 == 1 {
+        return true;
+    }
+    psw.left / 32768 % 2 == 1
+}
+
 // The PSW asks for a facility that is not installed.
 pub fn not_installed(psw: Psw) -> bool
     ensures { λ r. ⌜ ((c : Cpu) → c .psw ≡ psw → r ≡ notInstalled c) ⌝ }
 {
+    if psw.system370 {
+        return not_installed_370(psw);
+    }
     if psw.left / 1073741824 % 2 == 1 {
         return true;
     }
     psw.left / 32768 % 2 == 1
 }
 
-// The PSW is one to which a specification exception belongs.
-pub fn malformed(psw: Psw) -> bool
-    ensures { λ r. ⌜ ((c : Cpu) → c .psw ≡ psw → r ≡ malformed c) ⌝ }
+// A bit of the left word that must be zero in EC and 370-XA is one.
+fn left_malformed(psw: Psw) -> bool
+    ensures { λ r. ⌜ ((c : Cpu) → c .psw ≡ psw → r ≡ leftMalformed c) ⌝ }
 {
     if psw.left / 2147483648 % 2 == 1 {
         return true;
@@ -74,7 +106,31 @@ pub fn malformed(psw: Psw) -> bool
     if psw.left / 16384 % 2 == 1 {
         return true;
     }
-    if psw.left % 256 != 0 {
+    psw.left % 256 != 0
+}
+
+// A specification exception belongs to the PSW of a System/370 guest.
+fn malformed_370(psw: Psw) -> bool
+    requires { ⌜ psw .system370 ≡ true ⌝ }
+    ensures { λ r. ⌜ ((c : Cpu) → c .psw ≡ psw → r ≡ malformed c) ⌝ }
+{
+    if psw.left / 524288 % 2 != 1 {
+        return false;
+    }
+    if left_malformed(psw) {
+        return true;
+    }
+    psw.right / 16777216 % 256 != 0
+}
+
+// The PSW is one to which a specification exception belongs.
+pub fn malformed(psw: Psw) -> bool
+    ensures { λ r. ⌜ ((c : Cpu) → c .psw ≡ psw → r ≡ malformed c) ⌝ }
+{
+    if psw.system370 {
+        return malformed_370(psw);
+    }
+    if left_malformed(psw) {
         return true;
     }
     if psw.left / 524288 % 2 != 1 {
@@ -83,10 +139,7 @@ pub fn malformed(psw: Psw) -> bool
     if psw.right / 2147483648 % 2 == 1 {
         return false;
     }
-    if psw.right / 16777216 % 128 != 0 {
-        return true;
-    }
-    false
+    psw.right / 16777216 % 128 != 0
 }
 
 // Problem state.
@@ -103,10 +156,13 @@ pub fn waiting(psw: Psw) -> bool
     psw.left / 131072 % 2 == 1
 }
 
-// I/O interruptions are enabled.
+// I/O interruptions are enabled: in BC by the mask of some channel.
 pub fn io_enabled(psw: Psw) -> bool
     ensures { λ r. ⌜ ((c : Cpu) → c .psw ≡ psw → r ≡ ioEnabled c) ⌝ }
 {
+    if basic_control(psw) {
+        return psw.left / 33554432 % 128 != 0;
+    }
     psw.left / 33554432 % 2 == 1
 }
 
@@ -121,6 +177,9 @@ pub fn external_enabled(psw: Psw) -> bool
 pub fn overflow_enabled(psw: Psw) -> bool
     ensures { λ r. ⌜ ((c : Cpu) → c .psw ≡ psw → r ≡ overflowEnabled c) ⌝ }
 {
+    if basic_control(psw) {
+        return psw.right / 134217728 % 2 == 1;
+    }
     psw.left / 2048 % 2 == 1
 }
 
@@ -128,18 +187,33 @@ pub fn overflow_enabled(psw: Psw) -> bool
 pub fn condition_code(psw: Psw) -> u32
     ensures { λ r. ⌜ ((c : Cpu) → c .psw ≡ psw → r ≡ conditionCode c) ⌝ }
 {
+    if basic_control(psw) {
+        return psw.right / 268435456 % 4;
+    }
     psw.left / 4096 % 4
+}
+
+// The instruction address of a 370-XA guest.
+fn instruction_address_xa(psw: Psw) -> u32
+    requires { ⌜ psw .system370 ≡ false ⌝ }
+    ensures { λ r. ⌜ ((c : Cpu) → c .psw ≡ psw → r ≡ instructionAddress c) ⌝ }
+{
+    psw.right % 2147483648
 }
 
 // The instruction address.
 pub fn instruction_address(psw: Psw) -> u32
     ensures { λ r. ⌜ ((c : Cpu) → c .psw ≡ psw → r ≡ instructionAddress c) ⌝ }
 {
-    psw.right % 2147483648
+    if psw.system370 {
+        return psw.right % 16777216;
+    }
+    instruction_address_xa(psw)
 }
 
-// A logical address, cut to the addressing mode.
-pub fn wrapped(psw: Psw, a: u64) -> u32
+// A logical address of a 370-XA guest, cut to the addressing mode.
+fn wrapped_xa(psw: Psw, a: u64) -> u32
+    requires { ⌜ psw .system370 ≡ false ⌝ }
     ensures { λ r. ⌜ (r < 2147483648) × ((c : Cpu) → c .psw ≡ psw → r ≡ wrap c a) ⌝ }
 {
     if psw.right / 2147483648 % 2 == 1 {
@@ -148,14 +222,59 @@ pub fn wrapped(psw: Psw, a: u64) -> u32
     (a % 16777216) as u32
 }
 
-// The PSW at another instruction address, cut to the addressing mode.
-pub fn with_address(psw: Psw, a: u32) -> Psw
+// A logical address, cut to the addressing mode.
+pub fn wrapped(psw: Psw, a: u64) -> u32
+    ensures { λ r. ⌜ (r < 2147483648) × ((c : Cpu) → c .psw ≡ psw → r ≡ wrap c a) ⌝ }
+{
+    if psw.right / 2147483648 % 2 != 1 {
+        return (a % 16777216) as u32;
+    }
+    if psw.system370 {
+        return (a % 16777216) as u32;
+    }
+    (a % 2147483648) as u32
+}
+
+// The PSW of a System/370 guest at another instruction address: what stands before the address stays.
+fn with_address_370(psw: Psw, a: u32) -> Psw
+    requires { ⌜ psw .system370 ≡ true ⌝ }
     ensures { λ r. ⌜ ((c : Cpu) → c .psw ≡ psw → r ≡ (withAddress c a) .psw) ⌝ }
 {
     Psw {
         left: psw.left,
-        right: psw.right / 2147483648 % 2 * 2147483648 + wrapped(psw, a as u64),
+        right: psw.right / 16777216 % 256 * 16777216 + a % 16777216,
+        system370: true,
     }
+}
+
+// The PSW of a 370-XA guest at another instruction address, cut to the addressing mode.
+fn with_address_xa(psw: Psw, a: u32) -> Psw
+    requires { ⌜ psw .system370 ≡ false ⌝ }
+    ensures { λ r. ⌜ ((c : Cpu) → c .psw ≡ psw → r ≡ (withAddress c a) .psw) ⌝ }
+{
+    Psw {
+        left: psw.left,
+        right: psw.right / 2147483648 % 2 * 2147483648 + wrapped_xa(psw, a as u64),
+        system370: false,
+    }
+}
+
+// The PSW at another instruction address, cut to the addressing mode.
+pub fn with_address(psw: Psw, a: u32) -> Psw
+    ensures { λ r. ⌜ ((c : Cpu) → c .psw ≡ psw → r ≡ (withAddress c a) .psw) ⌝ }
+{
+    if psw.system370 {
+        return with_address_370(psw, a);
+    }
+    with_address_xa(psw, a)
+}
+
+// The PSW of a 370-XA guest past an instruction of so many halfwords.
+fn advanced_xa(psw: Psw, halfwords: u32) -> Psw
+    requires { ⌜ (psw .system370 ≡ false) × (halfwords ≤ 3) ⌝ }
+    ensures { λ r. ⌜ ((c : Cpu) → c .psw ≡ psw → r ≡ (advanced c halfwords) .psw) ⌝ }
+{
+    with_address_xa(psw, psw.right % 2147483648 + 2 * halfwords)
 }
 
 // The PSW past an instruction of so many halfwords.
@@ -163,7 +282,18 @@ pub fn advanced(psw: Psw, halfwords: u32) -> Psw
     requires { ⌜ halfwords ≤ 3 ⌝ }
     ensures { λ r. ⌜ ((c : Cpu) → c .psw ≡ psw → r ≡ (advanced c halfwords) .psw) ⌝ }
 {
-    with_address(psw, psw.right % 2147483648 + 2 * halfwords)
+    if psw.system370 {
+        return with_address_370(psw, psw.right % 16777216 + 2 * halfwords);
+    }
+    advanced_xa(psw, halfwords)
+}
+
+// A left word of EC or 370-XA with another condition code.
+fn code_in_left(left: u32, code: u32) -> u32
+    requires { ⌜ code < 4 ⌝ }
+    ensures { λ r. ⌜ r ≡ bits 32 0 17 left * 2 ^ 14 + code * 2 ^ 12 + bits 32 20 31 left ⌝ }
+{
+    left / 16384 % 262144 * 16384 + code * 4096 + left % 4096
 }
 
 // The PSW with another condition code.
@@ -171,10 +301,35 @@ pub fn with_condition_code(psw: Psw, code: u32) -> Psw
     requires { ⌜ code < 4 ⌝ }
     ensures { λ r. ⌜ ((c : Cpu) → c .psw ≡ psw → r ≡ (withConditionCode c code) .psw) ⌝ }
 {
-    Psw {
-        left: psw.left / 16384 % 262144 * 16384 + code * 4096 + psw.left % 4096,
-        right: psw.right,
+    if basic_control(psw) {
+        return Psw {
+            left: psw.left,
+            right: psw.right / 1073741824 % 4 * 1073741824
+                + code * 268435456
+                + psw.right % 268435456,
+            system370: psw.system370,
+        };
     }
+    Psw {
+        left: code_in_left(psw.left, code),
+        right: psw.right,
+        system370: psw.system370,
+    }
+}
+
+// The PSW that an interruption stores as the old one: a BC PSW has the interruption code in bits 16-31 and the ILC in bits 32-33.
+pub fn old_psw(psw: Psw, ilc: u32, code: u32) -> Psw
+    requires { ⌜ (ilc < 4) × (code < 65536) ⌝ }
+    ensures { λ r. ⌜ ((c : Cpu) → c .psw ≡ psw → r ≡ oldPsw c ilc code) ⌝ }
+{
+    if basic_control(psw) {
+        return Psw {
+            left: psw.left / 65536 % 65536 * 65536 + code,
+            right: ilc * 1073741824 + psw.right % 1073741824,
+            system370: true,
+        };
+    }
+    psw
 }
 
 // The clock that the guest sees.
@@ -343,33 +498,28 @@ pub fn misaligned(alignment: u32, a: u32) -> bool
     a % alignment != 0
 }
 
-// Step 4: the clock comparator interrupts.
-fn comparator_interrupts(guest: Guest, clock: u64, psw: Psw, control: Registers) -> bool
-    ensures { λ r. ⌜ ((c : Cpu) → c .psw ≡ psw → c .control ≡ control → r ≡ comparatorInterrupts guest clock c) ⌝ }
+// Step 4: the clock comparator interrupts, where external interruptions are enabled.
+fn comparator_interrupts(guest: Guest, clock: u64, control: Registers) -> bool
+    ensures { λ r. ⌜ ((c : Cpu) → c .control ≡ control → r ≡ comparatorInterrupts guest clock c) ⌝ }
 {
     let cr0 = control.words[0];
-    both(
-        both(external_enabled(psw), cr0 / 2048 % 2 == 1),
-        comparator_due(guest, clock),
-    )
+    both(cr0 / 2048 % 2 == 1, comparator_due(guest, clock))
 }
 
-// Step 5: the CPU timer interrupts.
-fn timer_interrupts(psw: Psw, timer: u64, control: Registers) -> bool
-    ensures { λ r. ⌜ ((c : Cpu) → c .psw ≡ psw → c .timer ≡ timer → c .control ≡ control → r ≡ timerInterrupts c) ⌝ }
+// Step 5: the CPU timer interrupts, where external interruptions are enabled.
+fn timer_interrupts(timer: u64, control: Registers) -> bool
+    ensures { λ r. ⌜ ((c : Cpu) → c .timer ≡ timer → c .control ≡ control → r ≡ timerInterrupts c) ⌝ }
 {
     let cr0 = control.words[0];
-    both(
-        both(external_enabled(psw), cr0 / 1024 % 2 == 1),
-        timer_due(timer),
-    )
+    both(cr0 / 1024 % 2 == 1, timer_due(timer))
 }
 
-// Step 6: an external interruption is requested and enabled.
-fn external_request(guest: Guest, psw: Psw) -> bool
-    ensures { λ r. ⌜ ((c : Cpu) → c .psw ≡ psw → r ≡ externalRequest guest c) ⌝ }
+// After step 5: the interval timer interrupts, where external interruptions are enabled.
+fn interval_interrupts(requested: bool, control: Registers) -> bool
+    ensures { λ r. ⌜ ((c : Cpu) → c .control ≡ control → r ≡ intervalInterrupts requested c) ⌝ }
 {
-    both(guest.interventions % 2 == 1, external_enabled(psw))
+    let cr0 = control.words[0];
+    both(cr0 / 128 % 2 == 1, requested)
 }
 
 // Step 7: an I/O interruption is requested and enabled.
@@ -379,9 +529,57 @@ fn io_request(guest: Guest, psw: Psw) -> bool
     both(guest.interventions / 2 % 2 == 1, io_enabled(psw))
 }
 
-// The list before each unit, first that applies.
-pub fn before_unit(guest: Guest, clock: u64, psw: Psw, timer: u64, control: Registers) -> Before
-    ensures { λ r. ⌜ ((v : ℕ → Cell) (c : Cpu) → c .psw ≡ psw → c .timer ≡ timer → c .control ≡ control → unit guest clock v c ≡ unitAfter guest clock v c r) ⌝ }
+// Steps 7 and 8.
+fn last_tests(guest: Guest, psw: Psw) -> Before
+    ensures { λ r. ⌜ ((clock : ℕ) (v : ℕ → Cell) (c : Cpu) → c .psw ≡ psw → lastTests guest clock v c ≡ unitAfter guest clock v c r) ⌝ }
+{
+    if io_request(guest, psw) {
+        return Before::Ends(Reason::IoRequest);
+    }
+    if waiting(psw) {
+        return Before::Ends(Reason::Wait);
+    }
+    Before::Instruction
+}
+
+// From step 4 on, where external interruptions are enabled.
+fn external_tests(
+    guest: Guest,
+    clock: u64,
+    requested: bool,
+    psw: Psw,
+    timer: u64,
+    control: Registers,
+) -> Before
+    ensures { λ r. ⌜ ((v : ℕ → Cell) (c : Cpu) → c .psw ≡ psw → c .timer ≡ timer → c .control ≡ control
+        → externalTests guest clock requested v c ≡ unitAfter guest clock v c r) ⌝ }
+{
+    if comparator_interrupts(guest, clock, control) {
+        return Before::Ends(Reason::External(COMPARATOR));
+    }
+    if timer_interrupts(timer, control) {
+        return Before::Ends(Reason::External(TIMER));
+    }
+    if interval_interrupts(requested, control) {
+        return Before::Ends(Reason::External(INTERVAL));
+    }
+    if guest.interventions % 2 == 1 {
+        return Before::Ends(Reason::ExternalRequest);
+    }
+    last_tests(guest, psw)
+}
+
+// The list before each unit, first that applies. Steps 4 to 6 are asked only where external interruptions are enabled.
+pub fn before_unit(
+    guest: Guest,
+    clock: u64,
+    requested: bool,
+    psw: Psw,
+    timer: u64,
+    control: Registers,
+) -> Before
+    ensures { λ r. ⌜ ((v : ℕ → Cell) (c : Cpu) → c .psw ≡ psw → c .timer ≡ timer → c .control ≡ control
+        → unit guest clock requested v c ≡ unitAfter guest clock v c r) ⌝ }
 {
     if guest.interventions / 4 % 2 == 1 {
         return Before::Ends(Reason::Stop);
@@ -392,20 +590,8 @@ pub fn before_unit(guest: Guest, clock: u64, psw: Psw, timer: u64, control: Regi
     if malformed(psw) {
         return Before::Malformed;
     }
-    if comparator_interrupts(guest, clock, psw, control) {
-        return Before::Ends(Reason::External(COMPARATOR));
+    if external_enabled(psw) {
+        return external_tests(guest, clock, requested, psw, timer, control);
     }
-    if timer_interrupts(psw, timer, control) {
-        return Before::Ends(Reason::External(TIMER));
-    }
-    if external_request(guest, psw) {
-        return Before::Ends(Reason::ExternalRequest);
-    }
-    if io_request(guest, psw) {
-        return Before::Ends(Reason::IoRequest);
-    }
-    if waiting(psw) {
-        return Before::Ends(Reason::Wait);
-    }
-    Before::Instruction
+    last_tests(guest, psw)
 }

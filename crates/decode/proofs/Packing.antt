@@ -1,20 +1,21 @@
 -- A row is had back from its packing, field by field; what lengths and alignments the table gives.
 -- Assumes nothing.
-use Prim.Native.Nat.{ℕ, zero, suc, _*_, _/_, _%_, _≤_, _<_}
+use Prim.Native.Nat.{ℕ, zero, suc, _+_, _*_, _/_, _%_, _≤_, _<_}
 use mathlib.Core.Path.{_≡_, refl, ap, sym, _∙_}
-use mathlib.Core.Bool.{Bool, true, false, cond, _&&_}
+use mathlib.Core.Bool.{Bool, true, false, cond, not, _&&_, _||_}
 use mathlib.Core.List.{List, [], _∷_, map}
 use native.Mathlib.Nat.{not-suc-le-zero, le-of-suc-le-suc}
+use native.Mathlib.Numerals.{add-one}
 use native.Mathlib.Omega.{arith}
 use borrow.Author.Tests.{ltb-true, lt-ltb, le-ltb, eqb-true}
 use lib.Dec.{eqb, ltb, lit<}
-use lib.ListN.{length, getD}
+use lib.ListN.{length, getD, drop}
 use Rattle.machine.specs.declared.Class.{Class}
 use Rattle.machine.specs.declared.Class.the-variants.{Lr, Ar, Sr, Bcr, Svc, La, Bc, St, L, Lpsw, Stctl, Lctl, Stck, Spt, Stpt, Mandatory, Unassigned}
 use Rattle.machine.specs.Words.{bits}
-use Rattle.machine.specs.Opcodes.{codeOf, Row, row, lengthOf, numberOf, opcodes, find, opcodeOf}
+use Rattle.machine.specs.Opcodes.{codeOf, Architectures, has, Row, row, lengthOf, numberOf, opcodes, find, opcodeOf}
 use Rattle.machine.proofs.Tests.{on-either-arm}
-use Rattle.decode.specs.Packing.{lengthOfNumber, packed}
+use Rattle.decode.specs.Packing.{lengthOfNumber, digitOf, packed, hasRow}
 
 -- a place of a packed list has the packing of the row there
 pub packed-at : (rows : List Row) (none : Row) (k : ℕ) → k < length rows → getD (map packed rows) k 0 ≡ packed (getD rows k none)
@@ -58,6 +59,11 @@ length-small first = by-tests (eqb (bits 16 0 1 first) 0) (ltb (bits 16 0 1 firs
     by-tests false true = lit< tt
     by-tests false false = lit< tt
 
+digit-small : (a : Architectures) → digitOf a < 3
+digit-small Architectures.both = lit< tt
+digit-small Architectures.xaAlone = lit< tt
+digit-small Architectures.system370Alone = lit< tt
+
 flag-small : (b : Bool) → cond b 1 0 < 2
 flag-small true = lit< tt
 flag-small false = lit< tt
@@ -85,38 +91,98 @@ aligned-at [] none e last k = last
 aligned-at (r ∷ rows) none e last zero = both (aligned r) _ e .0
 aligned-at (r ∷ rows) none e last (suc k) = aligned-at rows none (both (aligned r) _ e .1) last k
 
-aligned-found : (n : ℕ) (rows : List Row) → all-aligned rows ≡ true → aligned (find n rows) ≡ true
+aligned-found : (s : Bool) (n : ℕ) (rows : List Row) → all-aligned rows ≡ true → aligned (find s n rows) ≡ true
 unfolding all-aligned aligned find
-aligned-found n [] e = refl
-aligned-found n (r ∷ rows) e =
-    on-either-arm (λ found. aligned found ≡ true) (eqb n (r .number)) (both (aligned r) _ e .0) (aligned-found n rows (both (aligned r) _ e .1))
+aligned-found s n [] e = refl
+aligned-found s n (r ∷ rows) e =
+    on-either-arm (λ found. aligned found ≡ true) (eqb n (r .number) && has (r .architectures) s) (both (aligned r) _ e .0)
+    (aligned-found s n rows (both (aligned r) _ e .1))
 
 -- the row at a place of the table, and one that is unassigned past its end
+abbrev pub pastEnd : Row
+pastEnd = row Architectures.both 0 false 1 Unassigned
+
 abbrev pub rowAt : ℕ → Row
-rowAt k = getD opcodes k (row 0 false 1 Unassigned)
+rowAt k = getD opcodes k pastEnd
 
 pub row-digit : (k : ℕ) → (rowAt k) .alignment < 16
 unfolding all-aligned aligned
 row-digit k = aligned-within (rowAt k) (aligned-at opcodes _ refl refl k) .1
 
 -- what the table says of a first halfword: a length that is a length code, and an alignment that divides
-pub length-at-most : (first : ℕ) → (opcodeOf first) .length ≤ 3
+pub length-at-most : (s : Bool) (first : ℕ) → (opcodeOf s first) .length ≤ 3
 unfolding opcodeOf
-length-at-most first = le-of-suc-le-suc (length-small first)
+length-at-most s first = le-of-suc-le-suc (length-small first)
 
-pub alignment-some : (first : ℕ) → 0 < (opcodeOf first) .alignment
+pub alignment-some : (s : Bool) (first : ℕ) → 0 < (opcodeOf s first) .alignment
 unfolding opcodeOf all-aligned aligned
-alignment-some first = aligned-within (find (numberOf first) opcodes) (aligned-found (numberOf first) opcodes refl) .0
+alignment-some s first = aligned-within (find s (numberOf first) opcodes) (aligned-found s (numberOf first) opcodes refl) .0
+
+-- no two rows have the same number
+
+numbered : ℕ → List Row → Bool
+numbered n [] = false
+numbered n (r ∷ rows) = eqb n (r .number) || numbered n rows
+
+distinct : List Row → Bool
+distinct [] = true
+distinct (r ∷ rows) = not (numbered (r .number) rows) && distinct rows
+
+-- a number that no row has
+absent : (s : Bool) (n : ℕ) (rows : List Row) → numbered n rows ≡ false → find s n rows ≡ row Architectures.both n false 1 Unassigned
+unfolding numbered find
+absent s n [] e = refl
+absent s n (r ∷ rows) e = by-test (eqb n (r .number)) (absent s n rows) e
+  where
+    none : Row
+    none = row Architectures.both n false 1 Unassigned
+
+    by-test : (b : Bool) → (numbered n rows ≡ false → find s n rows ≡ none) → b || numbered n rows ≡ false
+        → cond (b && has (r .architectures) s) r (find s n rows) ≡ none
+    by-test true rest e = let z : _≡_ {A = ℕ} 0 1 = cc in absurd (omega arith)
+    by-test false rest e = rest e
+
+-- the number of the row at a place is not met behind it
+behind-at : (rows : List Row) (none : Row) → distinct rows ≡ true → (k : ℕ) → k < length rows
+    → numbered (getD rows k none .number) (drop (suc k) rows) ≡ false
+unfolding distinct
+behind-at [] none e k h = absurd (not-suc-le-zero h)
+behind-at (r ∷ rows) none e zero h = not-true _ (both (not (numbered (r .number) rows)) _ e .0)
+  where
+    not-true : (b : Bool) → not b ≡ true → b ≡ false
+    not-true true e = sym e
+    not-true false e = refl
+behind-at (r ∷ rows) none e (suc k) h = behind-at rows none (both (not (numbered (r .number) rows)) _ e .1) k (le-of-suc-le-suc h)
+
+pub row-once : (s : Bool) (k : ℕ) → k < 34
+    → find s (rowAt k .number) (drop (k + 1) opcodes) ≡ row Architectures.both (rowAt k .number) false 1 Unassigned
+unfolding distinct numbered
+row-once s k inside = rw add-one (absent s _ _ (behind-at opcodes pastEnd refl k inside))
 
 module _ (r : Row) (digit : r .alignment < 16) where
   -- each field of the packing is small enough for its digits
-  small : (lengthOfNumber (r .number) < 4) × (cond (r .privileged) 1 0 < 2) × (codeOf (r .class) < 17)
+  small : (digitOf (r .architectures) < 3) × (lengthOfNumber (r .number) < 4) × (cond (r .privileged) 1 0 < 2) × (codeOf (r .class) < 17)
   unfolding lengthOfNumber
-  small = (length-small _, flag-small (r .privileged), placed (r .class) .0)
+  small = (digit-small (r .architectures), length-small _, flag-small (r .privileged), placed (r .class) .0)
 
-  pub packed-number : packed r / 1048576 ≡ r .number
+  pub packed-number : packed r / 16777216 ≡ r .number
   unfolding packed
   packed-number = omega (arith, small)
+
+  packed-digit : packed r / 1048576 % 16 ≡ digitOf (r .architectures)
+  unfolding packed
+  packed-digit = omega (arith, small)
+
+  pub packed-has : (s : Bool) → hasRow (packed r) s ≡ has (r .architectures) s
+  unfolding hasRow has
+  packed-has s = rw packed-digit (by-digit (r .architectures) s)
+    where
+      by-digit : (a : Architectures) (s : Bool) → cond (eqb (digitOf a) 0) true (cond s (eqb (digitOf a) 2) (eqb (digitOf a) 1)) ≡ has a s
+      by-digit Architectures.both s = refl
+      by-digit Architectures.xaAlone true = refl
+      by-digit Architectures.xaAlone false = refl
+      by-digit Architectures.system370Alone true = refl
+      by-digit Architectures.system370Alone false = refl
 
   pub packed-length : packed r / 65536 % 16 ≡ lengthOfNumber (r .number)
   unfolding packed

@@ -1,11 +1,23 @@
 -- What the run operation answers and leaves behind.
 use Prim.Native.Nat.{ℕ}
 use mathlib.Core.Path.{_≡_}
+use mathlib.Core.Bool.{true}
 use mathlib.Core.List.{List}
 use Rattle.machine.specs.declared.Answer.{Answer}
+use Rattle.machine.specs.declared.Guest.{Guest}
 use Rattle.machine.specs.declared.Numbers.{Numbers}
+use Rattle.machine.specs.declared.Verdict.the-variants.{Accepted}
+use Rattle.machine.specs.Record.{guestOf}
+use Rattle.machine.specs.Refusals.{runVerdict}
+use Rattle.machine.specs.Entry.{entryGood}
 use Rattle.machine.specs.Operations.{Result, runOf}
 use Rattle.packing.specs.Packing.{packedAnswer, placeAfterRun}
+
+-- the input of a run is accepted, and entry lets the guest through
+pub record Starts (n : Numbers) (r storage keys : List ℕ) (g : Guest) : Type 0 where
+  pub accepted : runVerdict n r storage keys ≡ Accepted
+  pub here : g ≡ guestOf r
+  pub good : entryGood g ≡ true
 
 -- a run answered, and left record, storage and keys, as a result says
 pub record Gives (result : Result) (a : Answer) (r storage keys : List ℕ) : Type 0 where

@@ -1,16 +1,29 @@
 // The public operations, for C: check a record, translate one guest address, run. No operation has a requires; each contract equates
 // the answer with the definition of machine's Operations, for every input, refused input too, packed as packing's specs/Packing says.
 ghost use mathlib.Core.Path.{_≡_};
-ghost use Rattle.machine.specs.Refusals.{runVerdict};
+ghost use Prim.Native.Nat.{_≤_};
+ghost use mathlib.Core.Bool.{true, false, cond};
+ghost use lib.ListN.{length};
+ghost use Rattle.machine.specs.Record.{requestOf, residueOf, withInterval};
+ghost use Rattle.machine.specs.Refusals.{translateVerdict, runVerdict};
 ghost use Rattle.machine.specs.Host.{host};
 ghost use Rattle.machine.specs.Operations.{check, translate, runAs};
 ghost use Rattle.packing.specs.Packing.{packedCheck, packedTranslation, placeAfter};
-ghost use Rattle.drevokas.specs.Giving.{Gives, RunGives};
+ghost use Rattle.drevokas.specs.Giving.{Starts, Gives, RunGives};
 use machine::Answer;
 use machine::End;
+use machine::Guest;
 use machine::Numbers;
 use machine::Reason;
+use machine::Translated;
 use machine::Verdict;
+
+// The lengths of the two records, and the refusal of another length.
+const RECORD: usize = 200;
+
+const LONG_RECORD: usize = 208;
+
+const WRONG_LENGTH: u32 = 1;
 
 // Checks a record: good, code 32 or refused.
 #[no_mangle]
@@ -18,6 +31,30 @@ pub extern "C" fn drevokas_check(r: &[u8]) -> u64
     ensures { λ x. ⌜ x ≡ packedCheck (check (now (r .entry))) ⌝ }
 {
     packing::pack_check(inspect::check(r))
+}
+
+// translate, once the input is accepted: the answer is packed, and what it says of the address stands at the place.
+fn translate_accepted(
+    r: &[u8],
+    storage: &[u8],
+    keys: &[u8],
+    designation: u32,
+    a: u32,
+    kind: u32,
+    place: &mut u64,
+) -> u64
+    requires { ⌜ translateVerdict (now r) (now storage) (now keys) kind ≡ Verdict.Accepted ⌝ }
+    ensures { λ x. ⌜ (x ≡ packedTranslation (translate (now (r .entry)) (host designation (now (storage .entry)) (now (keys .entry))) a kind))
+        × (now (place .exit) ≡ placeAfter (translate (now (r .entry)) (host designation (now (storage .entry)) (now (keys .entry))) a kind) (now (place .entry))) ⌝ }
+{
+    if refusals::xa_mode(r[4]) {
+        let t = inspect::translate_xa(r, storage, keys, designation, a, kind);
+        *place = packing::place_after(t, *place);
+        return packing::pack_translation(t);
+    }
+    let t = inspect::translate_other(r, storage, keys, designation, a, kind);
+    *place = packing::place_after(t, *place);
+    packing::pack_translation(t)
 }
 
 // Translates one guest address: the host absolute address, code 32, a guest program exception, a host fault, or refused.
@@ -34,9 +71,89 @@ pub extern "C" fn drevokas_translate(
     ensures { λ x. ⌜ (x ≡ packedTranslation (translate (now (r .entry)) (host designation (now (storage .entry)) (now (keys .entry))) a kind))
         × (now (place .exit) ≡ placeAfter (translate (now (r .entry)) (host designation (now (storage .entry)) (now (keys .entry))) a kind) (now (place .entry))) ⌝ }
 {
-    let t = inspect::translate(r, storage, keys, designation, a, kind);
-    *place = packing::place_after(t, *place);
-    packing::pack_translation(t)
+    if r.len() < RECORD {
+        return packing::pack_translation(Translated::Refused(WRONG_LENGTH));
+    }
+    if r.len() == RECORD {
+        match refusals::short_translate_verdict(r, storage, keys, kind) {
+            Verdict::Refused(number) => {
+                return packing::pack_translation(Translated::Refused(number));
+            }
+            Verdict::Accepted => {}
+        }
+    } else {
+        match refusals::translate_verdict(r, storage, keys, kind) {
+            Verdict::Refused(number) => {
+                return packing::pack_translation(Translated::Refused(number));
+            }
+            Verdict::Accepted => {}
+        }
+    }
+    translate_accepted(r, storage, keys, designation, a, kind, place)
+}
+
+// The interval timer's request byte, where the timer is active.
+fn request_in(r: &[u8], timed: bool) -> u8
+    requires { ⌜ (timed ≡ true → 208 ≤ length (now r)) ⌝ }
+    ensures { λ x. ⌜ (timed ≡ true → x ≡ requestOf (now (r .entry))) ⌝ }
+{
+    if timed {
+        return records::request_of(r);
+    }
+    0
+}
+
+// Its residue.
+fn residue_in(r: &[u8], timed: bool) -> u32
+    requires { ⌜ (timed ≡ true → 208 ≤ length (now r)) ⌝ }
+    ensures { λ x. ⌜ (timed ≡ true → x ≡ residueOf (now (r .entry))) × (timed ≡ false → x ≡ 0) ⌝ }
+{
+    if timed {
+        return records::residue_of(r);
+    }
+    0
+}
+
+// Both put back, where the timer is active.
+fn put_timer(r: &mut [u8], timed: bool, request: u8, residue: u32)
+    requires { ⌜ (timed ≡ true → 208 ≤ length (now r)) ⌝ }
+    ensures { λ _. ⌜ now (r .exit) ≡ cond timed (withInterval request residue (now (r .entry))) (now (r .entry)) ⌝ }
+{
+    if timed {
+        records::put_interval(r, request, residue);
+    }
+}
+
+// run of a guest that entry lets through.
+fn run_guest(r: &mut [u8], storage: &mut [u8], keys: &mut [u8], n: Numbers, guest: Guest) -> Answer
+    requires { ⌜ Starts n (now r) (now storage) (now keys) guest ⌝ }
+    ensures { λ x. ⌜ Gives (runAs n (now (r .entry)) (now (storage .entry)) (now (keys .entry)) Verdict.Accepted) x (now (r .exit)) (now (storage .exit)) (now (keys .exit)) ⌝ }
+{
+    let timed = interval::active(guest);
+    let start = records::cpu_of(r);
+    let request = request_in(r, timed);
+    let residue = residue_in(r, timed);
+    let ended = run::run(
+        storage,
+        keys,
+        n.designation,
+        guest,
+        n.clock,
+        n.time,
+        n.budget,
+        start,
+        request,
+        residue,
+    );
+    let cpu = ended.cpu;
+    let end = ended.end;
+    records::put_cpu(r, cpu);
+    put_timer(r, timed, ended.request, ended.residue);
+    records::put_results(r, end);
+    Answer::Ended {
+        end,
+        units: ended.units,
+    }
 }
 
 // run, once the input is accepted.
@@ -45,30 +162,12 @@ fn run_accepted(r: &mut [u8], storage: &mut [u8], keys: &mut [u8], n: Numbers) -
     ensures { λ x. ⌜ Gives (runAs n (now (r .entry)) (now (storage .entry)) (now (keys .entry)) Verdict.Accepted) x (now (r .exit)) (now (storage .exit)) (now (keys .exit)) ⌝ }
 {
     let guest = records::guest_of(r);
-    if refusals::entry_good(guest) {
-        let start = records::cpu_of(r);
-        let ended = run::run(
-            storage,
-            keys,
-            n.designation,
-            guest,
-            n.clock,
-            n.time,
-            n.budget,
-            start,
-        );
-        let cpu = ended.cpu;
-        let end = ended.end;
-        records::put_cpu(r, cpu);
+    if !refusals::entry_good(guest, r.len() == LONG_RECORD) {
+        let end = End::Intercepted(Reason::Validity);
         records::put_results(r, end);
-        return Answer::Ended {
-            end,
-            units: ended.units,
-        };
+        return Answer::Ended { end, units: 0 };
     }
-    let end = End::Intercepted(Reason::Validity);
-    records::put_results(r, end);
-    Answer::Ended { end, units: 0 }
+    run_guest(r, storage, keys, n, guest)
 }
 
 // run, once the verdict is known.

@@ -5,17 +5,18 @@ use native.Mathlib.Nat.{add-assoc}
 use native.Mathlib.Omega.{arith}
 use mathlib.Core.Path.{_≡_, refl, ap, sym, _∙_}
 use mathlib.Core.Bool.{Bool, true, false, _&&_}
-use mathlib.Core.List.{List, _++_}
+use mathlib.Core.List.{List, [], _∷_, _++_}
 use borrow.Author.Tests.{eq-eqb}
 use lib.ListN.{length, length-append}
 use lib.Seq.{sets}
 use Rattle.machine.specs.declared.Cpu.{Cpu}
 use Rattle.machine.specs.declared.Failure.{Failure}
 use Rattle.machine.specs.declared.Guest.{Guest}
+use Rattle.machine.specs.declared.Psw.{Psw}
 use Rattle.machine.specs.declared.Walk.the-variants.{Page, Failed}
 use Rattle.machine.specs.Words.{byteAt, wordAt}
 use Rattle.machine.specs.Record.{pswOf, pswBytes}
-use Rattle.machine.specs.Psw.{withPsw}
+use Rattle.machine.specs.Psw.{withPsw, oldPsw}
 use Rattle.machine.specs.Failures.{protection, hostFault}
 use Rattle.machine.specs.Host.{Host, Located, hostVirtual, inFrame, places, backing, cellOf, view, referenced, changed, stored, markKey, marked}
 use Rattle.machine.specs.Addresses.{prefixed, reached, denied, settle, realAccess, all, andThen, accesses, upFrom, whenReached}
@@ -28,12 +29,12 @@ use Rattle.address.specs.Operands.{markFrame}
 use Rattle.execute.specs.After.{eventOf, cpuAfter, storageAfter, keysAfter, Completes}
 use Rattle.execute.proofs.Operations.{places-withBytes}
 
-psw-of-bytesFrom : (s : List ℕ) (a q : ℕ) → pswOf (bytesOf (bytesFrom s a q 8)) 0 ≡ pswOf s q
+psw-of-bytesFrom : (system370 : Bool) (s : List ℕ) (a q : ℕ) → pswOf system370 (bytesOf (bytesFrom s a q 8)) 0 ≡ pswOf system370 s q
 unfolding pswOf bytesFrom wordAt
-psw-of-bytesFrom s a q =
+psw-of-bytesFrom system370 s a q =
     let past : q + 1 + 1 + 1 + 1 ≡ q + 4 = omega arith in
     let right = word-of-bytesFrom s (a + 1 + 1 + 1 + 1) (q + 1 + 1 + 1 + 1) ∙ ap (wordAt s) past in
-    λ i. record { left = word-of-bytesFrom s a q i; right = right i }
+    λ i. record { left = word-of-bytesFrom s a q i; right = right i; system370 = system370 }
 
 markFrame-twice : (mark : ℕ → ℕ) → ((k : ℕ) → mark (mark k) ≡ mark k) → (frame : ℕ) (keys : List ℕ)
     → markFrame mark frame (markFrame mark frame keys) ≡ markFrame mark frame keys
@@ -73,10 +74,13 @@ module _ (g : Guest) (h : Host) {frame : ℕ} {protected : Bool}
         real-accesses store writable (a + 1) n (omega arith),
       )
 
-  stored-low : (a n : ℕ) (bytes t : List ℕ) → length bytes ≡ n → 0 < n → a + n ≤ 4096
+  stored-low : (a n : ℕ) (bytes t : List ℕ) → length bytes ≡ n → a + n ≤ 4096
       → stored (backing g h) (withBytes (lowBytes g h frame a n) bytes) t ≡ sets t (frame * 4096 + a) bytes
-  stored-low a n bytes t e some fits =
-      stored-in-page (backing g h) (h .storage) _ _ n bytes t e (omega arith) (λ i low high. page i (omega arith))
+  unfolding bytesFrom withBytes stored
+  stored-low a zero [] t e fits = refl
+  stored-low a zero (b ∷ bytes) t e fits = absurd (omega arith)
+  stored-low a (suc n) bytes t e fits =
+      stored-in-page (backing g h) (h .storage) _ _ (suc n) bytes t e (omega arith) (λ i low high. page i (omega arith))
       ∙ ap (λ q. sets t q bytes) (inFrame-low g frame a (omega arith))
 
   marked-low : (mark : ℕ → ℕ) → ((k : ℕ) → mark (mark k) ≡ mark k) → (a n : ℕ) → 0 < n → a + n ≤ 4096 → (keys : List ℕ)
@@ -85,28 +89,35 @@ module _ (g : Guest) (h : Host) {frame : ℕ} {protected : Bool}
   marked-low mark twice a n some fits keys =
       marked-in-page mark twice (backing g h) (h .storage) _ _ n keys some (λ i low high. page i (omega arith))
 
-module _ (h : Host) (x : Progress) (viewed : x .view ≡ view (x .guest) h) (c : Cpu) (areas : Areas) (fields : List ℕ)
-    (oldFits : areas .old + 8 ≤ 4096) (codeFits : areas .code + length fields ≤ 4096) (newFits : areas .new + 8 ≤ 4096)
-    (some : 0 < length fields) where
+  -- a frame that is marked stays as it is, however many of its bytes are marked again
+  marked-again : (mark : ℕ → ℕ) → ((k : ℕ) → mark (mark k) ≡ mark k) → (a n : ℕ) → a + n ≤ 4096 → (keys : List ℕ)
+      → marked (backing g h) mark (places (lowBytes g h frame a n)) (markFrame mark frame keys) ≡ markFrame mark frame keys
+  unfolding bytesFrom marked
+  marked-again mark twice a zero fits keys = refl
+  marked-again mark twice a (suc n) fits keys =
+      marked-low mark twice a (suc n) (omega arith) fits (markFrame mark frame keys) ∙ markFrame-twice mark twice frame keys
+
+module _ (h : Host) (x : Progress) (viewed : x .view ≡ view (x .guest) h) (c : Cpu) (areas : Areas) (code : ℕ) (fields : List ℕ)
+    (oldFits : areas .old + 8 ≤ 4096) (codeFits : areas .code + length fields ≤ 4096) (newFits : areas .new + 8 ≤ 4096) where
   -- the first byte is denied
-  interrupt-denied : (f : Failure) → realAccess (x .guest) (view (x .guest) h) true (areas .old) ≡ denied f → interrupt x c areas fields ≡ faulted f
+  interrupt-denied : (f : Failure) → realAccess (x .guest) (view (x .guest) h) true (areas .old) ≡ denied f → interrupt x c areas code fields ≡ faulted f
   unfolding interrupt whenReached accesses upFrom andThen
   interrupt-denied f e = rw (viewed, e)
 
-  pub interrupt-failed : (f : Failure) → backing (x .guest) h (x .guest .prefix * 4096 + areas .old) ≡ Failed f → interrupt x c areas fields ≡ faulted f
+  pub interrupt-failed : (f : Failure) → backing (x .guest) h (x .guest .prefix * 4096 + areas .old) ≡ Failed f → interrupt x c areas code fields ≡ faulted f
   unfolding realAccess settle view cellOf
   interrupt-failed f failed = interrupt-denied f (simp (prefixed-low (x .guest) (areas .old) (omega arith), failed))
 
   pub interrupt-protected : (frame : ℕ) → backing (x .guest) h (x .guest .prefix * 4096 + areas .old) ≡ Page frame true
-      → interrupt x c areas fields ≡ faulted (hostFault (hostVirtual (x .guest) (x .guest .prefix * 4096 + areas .old)) protection)
+      → interrupt x c areas code fields ≡ faulted (hostFault (hostVirtual (x .guest) (x .guest .prefix * 4096 + areas .old)) protection)
   unfolding realAccess settle view cellOf
   interrupt-protected frame backed = interrupt-denied _ (simp (prefixed-low (x .guest) (areas .old) (omega arith), backed))
 
   -- the old PSW and the code fields are stored, the new PSW is fetched, and their frame is marked after the text's
   pub interrupt-open : (frame : ℕ) → backing (x .guest) h (x .guest .prefix * 4096 + areas .old) ≡ Page frame false
-      → Completes (backing (x .guest) h) (interrupt x c areas fields)
-      (withPsw c (pswOf (h .storage) (frame * 4096 + areas .new)))
-      (λ t. sets (sets t (frame * 4096 + areas .old) (pswBytes (c .psw))) (frame * 4096 + areas .code) fields)
+      → Completes (backing (x .guest) h) (interrupt x c areas code fields)
+      (withPsw c (pswOf (c .psw .system370) (h .storage) (frame * 4096 + areas .new)))
+      (λ t. sets (sets t (frame * 4096 + areas .old) (pswBytes (oldPsw c (x .text .ilc) code))) (frame * 4096 + areas .code) fields)
       (λ k. markFrame changed frame (markFrame referenced frame (marked (backing (x .guest) h) referenced (x .fetched) k)))
   unfolding interrupt whenReached joined eventOf cpuAfter storageAfter keysAfter markedBy
   interrupt-open frame backed =
@@ -119,14 +130,14 @@ module _ (h : Host) (x : Progress) (viewed : x .view ≡ view (x .guest) h) (c :
       )
       (record {
         event = refl;
-        cpu = λ before. ap (withPsw c) (psw-of-bytesFrom (h .storage) _ _);
+        cpu = λ before. ap (withPsw c) (psw-of-bytesFrom (c .psw .system370) (h .storage) _ _);
         storage = λ t.
             rw (
-              withBytes-append old code (pswBytes (c .psw)) fields (sym (length-bytesFrom (h .storage) _ _ 8)),
+              withBytes-append old beside (pswBytes kept) fields (sym (length-bytesFrom (h .storage) _ _ 8)),
               stored-append,
-              stored-low (x .guest) h page (areas .old) 8 (pswBytes (c .psw)) t refl (omega arith) oldFits,
+              stored-low (x .guest) h page (areas .old) 8 (pswBytes kept) t refl oldFits,
             )
-            (stored-low (x .guest) h page (areas .code) (length fields) fields _ refl some codeFits);
+            (stored-low (x .guest) h page (areas .code) (length fields) fields _ refl codeFits);
         keys = λ k.
             rw (
               marked-append,
@@ -144,20 +155,22 @@ module _ (h : Host) (x : Progress) (viewed : x .view ≡ view (x .guest) h) (c :
       old : List Located
       old = lowBytes (x .guest) h frame (areas .old) 8
 
-      code : List Located
-      code = lowBytes (x .guest) h frame (areas .code) (length fields)
+      beside : List Located
+      beside = lowBytes (x .guest) h frame (areas .code) (length fields)
 
-      count : length (old ++ code) ≡ length (pswBytes (c .psw) ++ fields)
+      kept : Psw
+      kept = oldPsw c (x .text .ilc) code
+
+      count : length (old ++ beside) ≡ length (pswBytes kept ++ fields)
       count = simp (length-append, length-bytesFrom)
 
       marks : (mark : ℕ → ℕ) → ((k : ℕ) → mark (mark k) ≡ mark k) → (keys : List ℕ)
-          → marked (backing (x .guest) h) mark (places (withBytes (old ++ code) (pswBytes (c .psw) ++ fields))) keys ≡ markFrame mark frame keys
+          → marked (backing (x .guest) h) mark (places (withBytes (old ++ beside) (pswBytes kept ++ fields))) keys ≡ markFrame mark frame keys
       marks mark twice keys =
           rw (
-            places-withBytes (old ++ code) (pswBytes (c .psw) ++ fields) count,
-            places-append old code,
+            places-withBytes (old ++ beside) (pswBytes kept ++ fields) count,
+            places-append old beside,
             marked-append,
             marked-low (x .guest) h page mark twice (areas .old) 8 (omega arith) oldFits,
-            marked-low (x .guest) h page mark twice (areas .code) (length fields) some codeFits,
           )
-          (markFrame-twice mark twice frame keys)
+          (marked-again (x .guest) h page mark twice (areas .code) (length fields) codeFits keys)

@@ -18,7 +18,7 @@ use Rattle.machine.specs.Psw.{withPsw, withAddress, advanced}
 use Rattle.machine.specs.Failures.{operation, isTranslation}
 use Rattle.machine.specs.Host.{Host}
 use Rattle.machine.specs.Outcomes.{Outcome, intercepted, faulted, Progress}
-use Rattle.machine.specs.Interruptions.{Areas, programAreas, codeFields, interrupt, afterException, programFields, exception}
+use Rattle.machine.specs.Interruptions.{Areas, programAreas, codeFields, fieldsBeside, interrupt, afterException, programFields, exception}
 use Rattle.execute.specs.declared.Done.{Done}
 use Rattle.execute.specs.declared.Event.the-variants as event
 use Rattle.execute.specs.declared.Frames.{Frames}
@@ -32,6 +32,13 @@ code-word ilc code short small =
     let third : (ilc * 131072 + code) / 256 % 256 ≡ code / 256 % 256 = omega arith in
     let fourth : (ilc * 131072 + code) % 256 ≡ code % 256 = omega arith in
     λ i. first i ∷ second i ∷ third i ∷ fourth i ∷ []
+
+-- ILC and code, taken from the word
+pub ilc-of-word : (ilc code : ℕ) → ilc ≤ 3 → code < 65536 → (ilc * 131072 + code) / 131072 % 4 ≡ ilc
+ilc-of-word ilc code short small = omega arith
+
+pub code-of-word : (ilc code : ℕ) → code < 65536 → (ilc * 131072 + code) % 65536 ≡ code
+code-of-word ilc code small = omega arith
 
 -- the code fields of a program interruption, as the code holds them
 pub fields-as-word : (x : Progress) (f : Failure) (ilc : ℕ) {long : Bool} → ilc ≤ 3 → f .code < 65536 → x .text .ilc ≡ ilc → long ≡ isTranslation (f .code)
@@ -55,7 +62,7 @@ module _ (h : Host) (x : Progress) {g : Guest} {clock : ℕ} {c : Cpu} {text : T
   by-controls : f .host ≡ false → exception x to f ≡
       cond (eqb (f .code) operation && bit 8 0 (g .interceptions)) (intercepted (Operation text) (afterException x to f))
       (cond (bit 8 1 (g .interceptions)) (intercepted (Program (f .code) (text .ilc) (f .address)) (afterException x to f))
-      (interrupt x (afterException x to f) programAreas (programFields x f)))
+      (interrupt x (afterException x to f) programAreas (f .code) (fieldsBeside (afterException x to f) (programFields x f))))
   unfolding exception
   by-controls guests = rw (guests, standing .ofGuest, standing .ofText)
 
@@ -77,11 +84,11 @@ module _ (h : Host) (x : Progress) {g : Guest} {clock : ℕ} {c : Cpu} {text : T
       (left-intercepted h g c (Program (f .code) (text .ilc) (f .address)) (afterException x to f) d ended left)
 
   pub excepted-interruption : f .host ≡ false → (eqb (f .code) operation && bit 8 0 (g .interceptions)) ≡ false → bit 8 1 (g .interceptions) ≡ false
-      → (d : Done) {to' : Cpu} {areas : Areas} {fields storage keys : List ℕ} → to' ≡ afterException x to f → areas ≡ programAreas → fields ≡ programFields x f
-      → Left h g c (interrupt x to' areas fields) d storage keys → Left h g c (exception x to f) d storage keys
-  excepted-interruption guests other refused d {storage = storage} {keys = keys} reached areas fields left =
+      → (d : Done) {to' : Cpu} {areas : Areas} {code : ℕ} {fields storage keys : List ℕ} → to' ≡ afterException x to f → areas ≡ programAreas → code ≡ f .code
+      → fields ≡ programFields x f → Left h g c (interrupt x to' areas code (fieldsBeside to' fields)) d storage keys → Left h g c (exception x to f) d storage keys
+  excepted-interruption guests other refused d {storage = storage} {keys = keys} reached areas code fields left =
       rw (by-controls guests, other, refused)
-      (subst (λ o. Left h g c o d storage keys) (λ i. interrupt x (reached i) (areas i) (fields i)) left)
+      (subst (λ o. Left h g c o d storage keys) (λ i. interrupt x (reached i) (areas i) (code i) (fieldsBeside (reached i) (fields i))) left)
 
 module _ (x : Progress) (k : Cpu) (f : Failure) {psw : Psw} where
   pub at-the-instruction : (isTranslation (f .code) || eqb (x .text .ilc) 0) ≡ true → k .psw ≡ psw → withPsw k psw ≡ afterException x k f

@@ -1,5 +1,5 @@
 -- An outcome put into effect: how the unit ended, and the state, the storage and the keys that it leaves.
-use Prim.Native.Nat.{ℕ, _+_, _≤_, _<_}
+use Prim.Native.Nat.{ℕ, _+_, _*_, _/_, _%_, _≤_, _<_}
 use mathlib.Core.Path.{_≡_}
 use mathlib.Core.Bool.{Bool, cond}
 use mathlib.Core.List.{List, [], _++_}
@@ -11,10 +11,12 @@ use Rattle.machine.specs.declared.Psw.{Psw}
 use Rattle.machine.specs.declared.Registers.{Registers}
 use Rattle.machine.specs.declared.Text.{Text}
 use Rattle.machine.specs.declared.Walk.{Walk}
+use Rattle.machine.specs.declared.Walk.the-variants.{Page, Failed}
 use Rattle.machine.specs.Words.{wordBytes}
+use Rattle.machine.specs.Psw.{withPsw}
 use Rattle.machine.specs.Host.{Host, backing, view, referenced, stored, marked}
 use Rattle.machine.specs.Outcomes.{Outcome, completed, intercepted, faulted, Progress}
-use Rattle.machine.specs.Interruptions.{Areas}
+use Rattle.machine.specs.Interruptions.{Areas, fieldsBeside, interrupt}
 use Rattle.machine.specs.Run.{markedBy}
 use Rattle.address.specs.Operands.{markFrame}
 use Rattle.execute.specs.declared.Done.{Done}
@@ -22,6 +24,8 @@ use Rattle.execute.specs.declared.Event.{Event}
 use Rattle.execute.specs.declared.Event.the-variants as event
 use Rattle.execute.specs.declared.Frames.{Frames}
 use Rattle.execute.specs.declared.Interruption.{Interruption}
+use Rattle.execute.specs.declared.Took.{Took}
+use Rattle.execute.specs.declared.Took.the-variants.{Shut, Open}
 
 unfoldable pub eventOf : Outcome → Event
 eventOf (completed c e) = event.Completed
@@ -110,6 +114,13 @@ pub record Before (c : Cpu) (psw : Psw) (after : Done) : Type 0 where
 abbrev pub areasOf : Interruption → Areas
 areasOf i = record { old = i .old; code = i .code; new = i .new }
 
+-- the ILC and the code in an interruption's word
+abbrev pub ilcOf : Interruption → ℕ
+ilcOf i = i .word / 131072 % 4
+
+abbrev pub codeOf : Interruption → ℕ
+codeOf i = i .word % 65536
+
 -- the code fields of an interruption: a word, and an address behind it where it is long
 abbrev pub fieldsOf : Interruption → List ℕ
 fieldsOf i = codeBytes (i .word) (i .address) (i .long)
@@ -117,3 +128,31 @@ fieldsOf i = codeBytes (i .word) (i .address) (i .long)
 -- the areas stand in the prefix page
 abbrev pub InPrefixPage : Interruption → Type 0
 InPrefixPage i = (i .old + 8 ≤ 4096) × (i .code + 8 ≤ 4096) × (i .new + 8 ≤ 4096)
+
+-- a page that is found lies in the storage, and has a key and a frame number of 19 bits
+abbrev pub Keyed : List ℕ → List ℕ → Walk → Type 0
+Keyed storage keys (Failed f) = Unit {0}
+Keyed storage keys (Page frame protected) = (frame * 4096 + 4096 ≤ length storage) × (frame < length keys) × (frame < 524288)
+
+-- how an interruption ends the unit
+unfoldable pub eventBy : Took → Event
+eventBy (Shut f) = event.Faulted f
+eventBy (Open psw) = event.Completed
+
+-- the state that it leaves: the one before the unit, or the one that it came upon, with the new PSW
+unfoldable pub cpuBy : Cpu → Cpu → Took → Cpu
+cpuBy before to (Shut f) = before
+cpuBy before to (Open psw) = withPsw to psw
+
+-- an interruption of the state `to`, as it came out, is what the outcome says
+pub record Taken (h : Host) (g : Guest) (to : Cpu) (o : Outcome) (took : Took) (storage keys : List ℕ) : Type 0 where
+  pub event : eventOf o ≡ eventBy took
+  pub cpu : (before : Cpu) → cpuAfter before o ≡ cpuBy before to took
+  pub bytes : storage ≡ storageAfter (backing g h) o (h .storage)
+  pub marks : keys ≡ keysAfter (backing g h) o (h .keys)
+
+-- so for every unit in progress that stands so, and every state with this PSW, which becomes the old one
+abbrev pub Takes : Host → Guest → Psw → Interruption → Frames → Took → List ℕ → List ℕ → Type 0
+Takes h g psw i t took storage keys =
+    (x : Progress) (clock : ℕ) (c to : Cpu) (text : Text) → Standing h x g clock c text t → to .psw ≡ psw → ilcOf i ≡ text .ilc
+    → Taken h g to (interrupt x to (areasOf i) (codeOf i) (fieldsBeside to (fieldsOf i))) took storage keys

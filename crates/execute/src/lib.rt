@@ -1,22 +1,21 @@
 // What the instructions share: how a unit ends, exceptions and interruptions put into effect, and operands that are reached.
 ghost use mathlib.Core.Path.{_≡_};
-ghost use Prim.Native.Nat.{ℕ, _+_, _*_, _/_, _≤_, _<_};
+ghost use Prim.Native.Nat.{ℕ, _+_, _*_, _/_, _%_, _≤_, _<_};
 ghost use mathlib.Core.Bool.{false, _&&_};
 ghost use lib.Dec.{eqb};
 ghost use lib.ListN.{length};
 ghost use lib.Seq.{sets};
 ghost use Rattle.machine.specs.Record.{pswOf, pswBytes};
-ghost use Rattle.machine.specs.Psw.{wrap, withPsw, withTimer, withGeneral};
+ghost use Rattle.machine.specs.Psw.{wrap, withPsw, withTimer, withGeneral, oldPsw};
 ghost use Rattle.machine.specs.Words.{bit};
 ghost use Rattle.machine.specs.Refusals.{framesOf};
 ghost use Rattle.machine.specs.Failures.{operation, isTranslation};
-ghost use Rattle.machine.specs.Host.{Host, host, backing, referenced, changed};
+ghost use Rattle.machine.specs.Host.{Host, host, hostVirtual, backing, referenced, changed};
 ghost use Rattle.machine.specs.Outcomes.{Progress};
-ghost use Rattle.machine.specs.Interruptions.{programAreas, programFields, interrupt, afterException, exception};
+ghost use Rattle.machine.specs.Interruptions.{programAreas, programFields, fieldsBeside, afterException, exception};
 ghost use Rattle.storage.specs.Entered.{Entered};
-ghost use Rattle.address.specs.Touching.{Inside, Backed};
 ghost use Rattle.address.specs.Operands.{operandOf, markFrame};
-ghost use Rattle.execute.specs.After.{endedWith, WithKeys, markText, leftBy, Before, Standing, Left, areasOf, codeBytes, fieldsOf, InPrefixPage, withRegisters};
+ghost use Rattle.execute.specs.After.{endedWith, WithKeys, markText, leftBy, Before, Standing, Left, areasOf, codeBytes, ilcOf, codeOf, fieldsOf, InPrefixPage, withRegisters, Keyed, eventBy, cpuBy, Takes};
 ghost use Rattle.execute.specs.Reaching.{Ready, InReach, Reaches, Within, Does, markAll};
 use address::Operand;
 use machine::Cpu;
@@ -61,8 +60,8 @@ pub struct Frames {
     pub second: u32,
 }
 
-// An interruption: the real addresses of the old PSW, of the code fields and of the new PSW; the code's word; and an address,
-// which is stored behind it where long says so.
+// An interruption: the real addresses of the old PSW, of the code fields and of the new PSW; the code's word, with the ILC in bits
+// 13-14 and the code in bits 16-31; and an address, which is stored behind it where long says so.
 pub struct Interruption {
     pub old: u32,
     pub code: u32,
@@ -70,6 +69,12 @@ pub struct Interruption {
     pub word: u32,
     pub address: u32,
     pub long: bool,
+}
+
+// How an interruption comes out: its areas cannot be stored into, or the new PSW.
+pub enum Took {
+    Shut(Failure),
+    Open(Psw),
 }
 
 const OPERATION: u32 = 1;
@@ -189,8 +194,17 @@ pub fn mark_text(keys: &mut [u8], t: Frames)
     writer::mark_fetched(keys, t.second);
 }
 
+// Stores a PSW.
+fn put_psw(part: &mut [u8], at: usize, psw: Psw)
+    requires { ⌜ at + 8 ≤ length (now part) ⌝ }
+    ensures { λ _. ⌜ now (part .exit) ≡ sets (now (part .entry)) at (pswBytes psw) ⌝ }
+{
+    words::put_word(part, at, psw.left);
+    words::put_word(part, at + 4, psw.right);
+}
+
 // Stores an old PSW and the code fields of an interruption, the address among them where it is long, in the frame's part of
-// storage.
+// storage. A BC PSW takes ILC and code up itself, and nothing is stored beside it.
 fn put_areas(
     part: &mut [u8],
     old: usize,
@@ -202,35 +216,40 @@ fn put_areas(
 )
     requires { ⌜ old + 8 ≤ length (now part) ⌝ }
     requires { ⌜ code + 8 ≤ length (now part) ⌝ }
-    ensures { λ _. ⌜ now (part .exit) ≡ sets (sets (now (part .entry)) old (pswBytes psw)) code (codeBytes word address long) ⌝ }
+    ensures { λ _. ⌜ ((c : Cpu) → c .psw ≡ psw → now (part .exit) ≡ sets (sets (now (part .entry)) old (pswBytes (oldPsw c (word / 131072 % 4) (word % 65536))))
+        code (fieldsBeside c (codeBytes word address long))) ⌝ }
 {
-    words::put_word(part, old, psw.left);
-    words::put_word(part, old + 4, psw.right);
+    if cpu::basic_control(psw) {
+        let coded = cpu::old_psw(psw, word / 131072 % 4, word % 65536);
+        put_psw(part, old, coded);
+        return;
+    }
+    put_psw(part, old, psw);
     words::put_word(part, code, word);
     if long {
         words::put_word(part, code + 4, address);
     }
 }
 
-// An interruption whose areas stand in a frame that may be stored into.
+// Stores the areas of an interruption in a frame that may be stored into, with `psw` as the old one. The new PSW comes back.
 fn interrupt_open(
     storage: &mut [u8],
     keys: &mut [u8],
-    after: Done,
+    psw: Psw,
     i: Interruption,
     t: Frames,
     frame: u32,
-) -> Done
+) -> Psw
     requires { ⌜ WithKeys (now keys) t × (frame < length (now keys)) ⌝ }
     requires { ⌜ InPrefixPage i × (frame * 4096 + 4096 ≤ length (now storage)) × (frame < 524288) ⌝ }
-    ensures { λ r. ⌜ (r .event ≡ Event.Completed) × ((c : Cpu) → leftBy c r ≡ withPsw (leftBy c after) (pswOf (now (storage .entry)) (frame * 4096 + i .new))) ⌝ }
-    ensures { λ _. ⌜ now (storage .exit) ≡ sets (sets (now (storage .entry)) (frame * 4096 + i .old) (pswBytes (after .psw))) (frame * 4096 + i .code) (fieldsOf i) ⌝ }
+    ensures { λ r. ⌜ r ≡ pswOf (psw .system370) (now (storage .entry)) (frame * 4096 + i .new) ⌝ }
+    ensures { λ _. ⌜ ((c : Cpu) → c .psw ≡ psw → now (storage .exit) ≡ sets (sets (now (storage .entry)) (frame * 4096 + i .old) (pswBytes (oldPsw c (ilcOf i) (codeOf i))))
+        (frame * 4096 + i .code) (fieldsBeside c (fieldsOf i))) ⌝ }
     ensures { λ _. ⌜ now (keys .exit) ≡ markFrame changed frame (markFrame referenced frame (markText t (now (keys .entry)))) ⌝ }
 {
     let base = frame as usize * FRAME;
     let left = words::word_at(storage, base + i.new as usize);
     let right = words::word_at(storage, base + i.new as usize + 4);
-    let psw = after.psw;
     let end = base + FRAME;
     put_areas(
         &mut storage[base..end],
@@ -243,62 +262,82 @@ fn interrupt_open(
     );
     mark_text(keys, t);
     writer::mark_areas(keys, frame);
-    ended_with(Event::Completed, after, Psw { left, right })
+    Psw {
+        left,
+        right,
+        system370: psw.system370,
+    }
 }
 
-// An interruption, by the host page behind its areas. The PSW of `after` becomes the old one; `start` is the unit's own.
+// An interruption, by the host page behind its areas, whose host virtual address is v. `psw` becomes the old one.
 fn interrupt_at(
     storage: &mut [u8],
     keys: &mut [u8],
-    guest: Guest,
-    start: Psw,
-    after: Done,
+    psw: Psw,
     i: Interruption,
     t: Frames,
+    v: u32,
     w: Walk,
-) -> Done
-    requires { ⌜ Entered guest × WithKeys (now keys) t × InPrefixPage i ⌝ }
-    requires { ⌜ Inside (now storage) w × Backed guest (now keys) (guest .prefix * 4096 + i .old) w ⌝ }
-    ensures { λ r. ⌜ ((h : Host) (x : Progress) (clock : ℕ) (c : Cpu) (text : Text) → h .storage ≡ now (storage .entry) → h .keys ≡ now (keys .entry)
-        → w ≡ backing guest h (guest .prefix * 4096 + i .old) → Standing h x guest clock c text t → Before c start after
-        → Left h guest c (interrupt x (leftBy c after) (areasOf i) (fieldsOf i)) r (now (storage .exit)) (now (keys .exit))) ⌝ }
+) -> Took
+    requires { ⌜ WithKeys (now keys) t × InPrefixPage i × Keyed (now storage) (now keys) w ⌝ }
+    ensures { λ r. ⌜ ((h : Host) (g : Guest) → h .storage ≡ now (storage .entry) → h .keys ≡ now (keys .entry)
+        → w ≡ backing g h (g .prefix * 4096 + i .old) → v ≡ hostVirtual g (g .prefix * 4096 + i .old)
+        → Takes h g psw i t r (now (storage .exit)) (now (keys .exit))) ⌝ }
 {
     match w {
-        Walk::Failed(f) => faulted(start, after, f),
+        Walk::Failed(f) => Took::Shut(f),
         Walk::Page { frame, protected } => {
             if protected {
                 let f = Failure {
                     host: true,
                     code: PROTECTION,
-                    address: guest.origin as u32 * 65536 + (guest.prefix * 4096 + i.old),
+                    address: v,
                 };
-                return faulted(start, after, f);
+                return Took::Shut(f);
             }
-            interrupt_open(storage, keys, after, i, t, frame)
+            Took::Open(interrupt_open(storage, keys, psw, i, t, frame))
         }
     }
 }
 
-// An interruption: the areas of every class stand in the prefix page.
-pub fn interrupt(
+// An interruption, for every guest of this prefix, origin and extent: the areas of every class stand in the prefix page.
+pub fn take(
     storage: &mut [u8],
     keys: &mut [u8],
     designation: u32,
-    guest: Guest,
-    start: Psw,
-    after: Done,
+    prefix: u32,
+    origin: u16,
+    extent: u16,
+    psw: Psw,
     i: Interruption,
     t: Frames,
-) -> Done
-    requires { ⌜ Entered guest × WithKeys (now keys) t × (framesOf (now storage) ≤ length (now keys)) × InPrefixPage i ⌝ }
-    ensures { λ r. ⌜ ((x : Progress) (clock : ℕ) (c : Cpu) (text : Text)
-        → Standing (host designation (now (storage .entry)) (now (keys .entry))) x guest clock c text t → Before c start after
-        → Left (host designation (now (storage .entry)) (now (keys .entry))) guest c (interrupt x (leftBy c after) (areasOf i) (fieldsOf i)) r
-        (now (storage .exit)) (now (keys .exit))) ⌝ }
+) -> Took
+    requires { ⌜ (origin + extent ≤ 32768) × (prefix * 4096 + 4096 ≤ extent * 65536) ⌝ }
+    requires { ⌜ WithKeys (now keys) t × (framesOf (now storage) ≤ length (now keys)) × InPrefixPage i ⌝ }
+    ensures { λ r. ⌜ ((g : Guest) → g .prefix ≡ prefix → g .origin ≡ origin → g .extent ≡ extent
+        → Takes (host designation (now (storage .entry)) (now (keys .entry))) g psw i t r (now (storage .exit)) (now (keys .exit))) ⌝ }
 {
-    let absolute = guest.prefix * 4096 + i.old;
-    let page = storage::backing(storage, designation, guest.origin, guest.extent, absolute);
-    interrupt_at(storage, keys, guest, start, after, i, t, page)
+    let absolute = prefix * 4096 + i.old;
+    let page = storage::backing(storage, designation, origin, extent, absolute);
+    interrupt_at(
+        storage,
+        keys,
+        psw,
+        i,
+        t,
+        origin as u32 * 65536 + absolute,
+        page,
+    )
+}
+
+// The unit, ended by an interruption. `start` is the PSW before the unit; the PSW of `after` does not matter.
+pub fn interrupted(start: Psw, after: Done, took: Took) -> Done
+    ensures { λ r. ⌜ (r .event ≡ eventBy took) × ((c : Cpu) → Before c start after → leftBy c r ≡ cpuBy c (leftBy c after) took) ⌝ }
+{
+    match took {
+        Took::Shut(f) => faulted(start, after, f),
+        Took::Open(psw) => ended_with(Event::Completed, after, psw),
+    }
 }
 
 // A segment or page translation exception.
@@ -338,7 +377,8 @@ fn intercepts_operation(guest: Guest, code: u32) -> bool
 // The program interruption of an exception.
 fn program_interruption(ilc: u8, f: Failure) -> Interruption
     requires { ⌜ (ilc ≤ 3) × (f .code < 65536) ⌝ }
-    ensures { λ r. ⌜ InPrefixPage r × (areasOf r ≡ programAreas) × ((x : Progress) → x .text .ilc ≡ ilc → fieldsOf r ≡ programFields x f) ⌝ }
+    ensures { λ r. ⌜ InPrefixPage r × (areasOf r ≡ programAreas) × ((x : Progress) → x .text .ilc ≡ ilc → fieldsOf r ≡ programFields x f)
+        × (ilcOf r ≡ ilc) × (codeOf r ≡ f .code) ⌝ }
 {
     Interruption {
         old: 40,
@@ -385,8 +425,18 @@ pub fn exception(
         return ended_with(Event::Intercepted(reason), after, psw);
     }
     let i = program_interruption(text.ilc, f);
-    let done = ended_with(Event::Completed, after, psw);
-    interrupt(storage, keys, designation, guest, start, done, i, t)
+    let took = take(
+        storage,
+        keys,
+        designation,
+        guest.prefix,
+        guest.origin,
+        guest.extent,
+        psw,
+        i,
+        t,
+    );
+    interrupted(start, after, took)
 }
 
 // An exception of the state that the unit began with.

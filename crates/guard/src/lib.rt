@@ -1,6 +1,7 @@
-// The frames that decide a translation, named in a guard: while storage stays alike in them, the translation stays what it is.
+// The frames that decide a translation of a 370-XA guest, named in a guard: while storage stays alike in them, the translation stays
+// what it is.
 ghost use mathlib.Core.Path.{_≡_};
-ghost use mathlib.Core.Bool.{Bool};
+ghost use mathlib.Core.Bool.{Bool, false};
 ghost use mathlib.Core.List.{List};
 ghost use Prim.Native.Nat.{ℕ, _*_, _%_, _<_};
 ghost use lib.ListN.{length, set};
@@ -182,7 +183,7 @@ fn name_tables(
     control: Registers,
     a: u32,
 ) -> Walk
-    requires { ⌜ (length (now guard) ≡ 64) × Entered guest ⌝ }
+    requires { ⌜ (length (now guard) ≡ 64) × Entered guest × (psw .system370 ≡ false) ⌝ }
     ensures { λ _. ⌜ Wider (now (guard .entry)) (now (guard .exit)) ⌝ }
     ensures { λ _. ⌜ ((t k : List ℕ) → Alike (now (guard .exit)) (now (storage .entry)) t
         → realPage guest (view guest (host designation t k)) (seen psw control) a ≡ realPage guest (view guest (host designation (now (storage .entry)) k)) (seen psw control) a) ⌝ }
@@ -220,7 +221,7 @@ pub fn name_access(
     control: Registers,
     a: u32,
 )
-    requires { ⌜ (length (now guard) ≡ 64) × Entered guest ⌝ }
+    requires { ⌜ (length (now guard) ≡ 64) × Entered guest × (psw .system370 ≡ false) ⌝ }
     ensures { λ _. ⌜ Wider (now (guard .entry)) (now (guard .exit)) ⌝ }
     ensures { λ _. ⌜ ((t k : List ℕ) (store : Bool) → Alike (now (guard .exit)) (now (storage .entry)) t
         → touchOf guest (host designation t k) (seen psw control) store a ≡ touchOf guest (host designation (now (storage .entry)) k) (seen psw control) store a) ⌝ }

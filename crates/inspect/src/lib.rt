@@ -1,16 +1,23 @@
-// The operations that change nothing: check a record, translate one guest address. No operation has a requires; each contract equates
-// the answer with machine's Operations, for every input, refused input too.
+// The operations that change nothing: check a record, translate one guest address. Each contract equates the answer with machine's
+// Operations: check for every input, refused input too; translate once the input is accepted.
 ghost use mathlib.Core.Path.{_≡_};
+ghost use mathlib.Core.Bool.{true};
+ghost use Rattle.machine.specs.Record.{guestOf};
 ghost use Rattle.machine.specs.Refusals.{checkVerdict, translateVerdict};
 ghost use Rattle.machine.specs.Host.{host};
-ghost use Rattle.machine.specs.Operations.{checkedAs, check, translatedAs, translate};
+ghost use Rattle.machine.specs.declared.Cpu.{Cpu};
+ghost use Rattle.machine.specs.Operations.{checkedAs, check, translates, translatedAs};
+ghost use Rattle.refusals.specs.Parts.{xaMode};
 ghost use Rattle.inspect.specs.Answering.{answered};
 use address::Place;
 use machine::Checked;
+use machine::Psw;
 use machine::Translated;
 use machine::Verdict;
 
 const STORE: u32 = 1;
+
+const LONG_RECORD: usize = 208;
 
 // check, once the verdict is known.
 fn checked_as(r: &[u8], v: Verdict) -> Checked
@@ -20,7 +27,7 @@ fn checked_as(r: &[u8], v: Verdict) -> Checked
     match v {
         Verdict::Refused(number) => Checked::Refused(number),
         Verdict::Accepted => {
-            if refusals::entry_good(records::guest_of(r)) {
+            if refusals::entry_good(records::guest_of(r), r.len() == LONG_RECORD) {
                 Checked::Good
             } else {
                 Checked::Validity
@@ -46,8 +53,47 @@ fn answer(x: Place) -> Translated
     }
 }
 
-// translate, once the input is accepted.
-fn translate_accepted(
+// A System/370 guest's EC PSW with DAT on is not translated; every other PSW's addresses are.
+fn translates(psw: Psw) -> bool
+    ensures { λ x. ⌜ ((c : Cpu) → psw ≡ c .psw → x ≡ translates c) ⌝ }
+{
+    if !psw.system370 {
+        return true;
+    }
+    if psw.left / 67108864 % 2 != 1 {
+        return true;
+    }
+    psw.left / 524288 % 2 != 1
+}
+
+// translate of a 370-XA guest, once the input is accepted.
+pub fn translate_xa(
+    r: &[u8],
+    storage: &[u8],
+    keys: &[u8],
+    designation: u32,
+    a: u32,
+    kind: u32,
+) -> Translated
+    requires { ⌜ (xaMode (guestOf (now r) .mode) ≡ true) × (translateVerdict (now r) (now storage) (now keys) kind ≡ Verdict.Accepted) ⌝ }
+    ensures { λ t. ⌜ t ≡ translatedAs (now (r .entry)) (host designation (now (storage .entry)) (now (keys .entry))) a kind Verdict.Accepted ⌝ }
+{
+    let guest = records::guest_of(r);
+    if !refusals::place_good(guest) {
+        return Translated::Validity;
+    }
+    let psw = records::psw_of(r);
+    let control = records::table_controls(r);
+    let cr0 = control.words[0];
+    let cr1 = control.words[1];
+    let space = address::space_of(guest, psw, cr0, cr1);
+    let at = address::wrapped(psw, a);
+    let found = address::locate(storage, keys, designation, space, kind == STORE, at);
+    answer(address::place_of(at, found))
+}
+
+// translate of any other guest, once the input is accepted: entry looks at its mode, and its PSW may have DAT on.
+pub fn translate_other(
     r: &[u8],
     storage: &[u8],
     keys: &[u8],
@@ -59,49 +105,18 @@ fn translate_accepted(
     ensures { λ t. ⌜ t ≡ translatedAs (now (r .entry)) (host designation (now (storage .entry)) (now (keys .entry))) a kind Verdict.Accepted ⌝ }
 {
     let guest = records::guest_of(r);
-    if refusals::entry_good(guest) {
-        let psw = records::psw_of(r);
-        let control = records::table_controls(r);
-        let cr0 = control.words[0];
-        let cr1 = control.words[1];
-        let space = address::space_of(guest, psw.left, cr0, cr1);
-        let at = address::wrapped(psw, a);
-        let found = address::locate(storage, keys, designation, space, kind == STORE, at);
-        return answer(address::place_of(at, found));
+    if !refusals::entry_good(guest, r.len() == LONG_RECORD) {
+        return Translated::Validity;
     }
-    Translated::Validity
-}
-
-// translate, once the verdict is known.
-fn translated_as(
-    r: &[u8],
-    storage: &[u8],
-    keys: &[u8],
-    designation: u32,
-    a: u32,
-    kind: u32,
-    v: Verdict,
-) -> Translated
-    requires { ⌜ v ≡ translateVerdict (now r) (now storage) (now keys) kind ⌝ }
-    ensures { λ t. ⌜ t ≡ translatedAs (now (r .entry)) (host designation (now (storage .entry)) (now (keys .entry))) a kind v ⌝ }
-{
-    match v {
-        Verdict::Refused(number) => Translated::Refused(number),
-        Verdict::Accepted => translate_accepted(r, storage, keys, designation, a, kind),
+    let psw = records::psw_of(r);
+    if !translates(psw) {
+        return Translated::Validity;
     }
-}
-
-// Translates one guest address: the host absolute address, code 32, a guest program exception, a host fault, or refused.
-pub fn translate(
-    r: &[u8],
-    storage: &[u8],
-    keys: &[u8],
-    designation: u32,
-    a: u32,
-    kind: u32,
-) -> Translated
-    ensures { λ t. ⌜ t ≡ translate (now (r .entry)) (host designation (now (storage .entry)) (now (keys .entry))) a kind ⌝ }
-{
-    let v = refusals::translate_verdict(r, storage, keys, kind);
-    translated_as(r, storage, keys, designation, a, kind, v)
+    let control = records::table_controls(r);
+    let cr0 = control.words[0];
+    let cr1 = control.words[1];
+    let space = address::space_of(guest, psw, cr0, cr1);
+    let at = address::wrapped(psw, a);
+    let found = address::locate(storage, keys, designation, space, kind == STORE, at);
+    answer(address::place_of(at, found))
 }

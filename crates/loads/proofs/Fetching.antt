@@ -68,8 +68,11 @@ module _ (h : Host) (x : Progress) {g : Guest} {clock : ℕ} {c : Cpu} {text : T
         past-it-with _ d psw (λ k u. withControls k (bits 16 8 11 (u .first)) (wordsAt bytes 0 n)) left moves refl same
         ∙ ap (λ m. next x (withControls (x .cpu) (r1 x) (wordsAt bytes 0 m))) as-many
 
-    pub psw-loaded : leftBy c d ≡ withPsw c psw → psw ≡ pswOf bytes 0 → leftBy c d ≡ withPsw (x .cpu) (pswOf bytes 0)
-    psw-loaded left same = left ∙ (λ i. withPsw (sym (standing .ofCpu) i) (same i))
+    -- a PSW that is loaded is of the guest's architecture
+    pub psw-loaded : leftBy c d ≡ withPsw c psw → psw ≡ pswOf (c .psw .system370) bytes 0
+        → leftBy c d ≡ withPsw (x .cpu) (pswOf (x .cpu .psw .system370) bytes 0)
+    psw-loaded left same =
+        left ∙ ap (withPsw c) same ∙ ap (λ k. withPsw k (pswOf (k .psw .system370) bytes 0)) (sym (standing .ofCpu))
 
   at : {a : ℕ} {place : Progress → ℕ} → Addresses c text a place → a ≡ place x
   at addresses = addresses .1 x (ap (λ k. k .psw) (standing .ofCpu)) (ap (λ k. k .general) (standing .ofCpu)) (standing .ofText)

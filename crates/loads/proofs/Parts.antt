@@ -4,6 +4,7 @@ use Prim.Native.Nat.{ℕ, _+_, _-_, _≤_, _<_}
 use native.Mathlib.Nat.{le-of-eq}
 use native.Mathlib.Omega.{arith}
 use mathlib.Core.Path.{_≡_, sym, ap, _∙_}
+use mathlib.Core.Bool.{Bool}
 use mathlib.Core.List.{List, [], _++_, append-nil}
 use borrow.Rule.Slice.PartMut.{putMid}
 use lib.ListN.{length, take, drop, length-drop, drop-of-length-le, List·getD-append}
@@ -69,6 +70,11 @@ module _ (s tail : List ℕ) (a n : ℕ) (fits : a + n ≤ length s) where
   unfolding doubleAt
   part-double long = omega (arith, part-word 0 a (omega arith) (omega arith), part-word 4 (a + 4) (omega arith) (omega arith))
 
-  pub part-psw : 8 ≤ n → pswOf (take n (drop a s) ++ tail) 0 ≡ pswOf s a
+  pub part-psw : (system370 : Bool) → 8 ≤ n → pswOf system370 (take n (drop a s) ++ tail) 0 ≡ pswOf system370 s a
   unfolding pswOf
-  part-psw long = λ i. record { left = part-word 0 a (omega arith) (omega arith) i; right = part-word 4 (a + 4) (omega arith) (omega arith) i }
+  part-psw system370 long =
+      λ i. record {
+        left = part-word 0 a (omega arith) (omega arith) i;
+        right = part-word 4 (a + 4) (omega arith) (omega arith) i;
+        system370 = system370;
+      }

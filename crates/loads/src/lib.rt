@@ -78,29 +78,33 @@ fn operand_double(storage: &[u8], first: u32, count: u32, second: u32) -> u64
     words::double_at(&bytes[..], 0)
 }
 
-// The PSW at an address.
-fn psw_at(s: &[u8], a: usize) -> Psw
+// The PSW at an address, of the architecture that is told.
+fn psw_at(s: &[u8], a: usize, system370: bool) -> Psw
     requires { ⌜ a + 8 ≤ length (now s) ⌝ }
-    ensures { λ r. ⌜ r ≡ pswOf (now (s .entry)) a ⌝ }
+    ensures { λ r. ⌜ r ≡ pswOf system370 (now (s .entry)) a ⌝ }
 {
     let left = words::word_at(s, a);
     let right = words::word_at(s, a + 4);
-    Psw { left, right }
+    Psw {
+        left,
+        right,
+        system370,
+    }
 }
 
 // A PSW, as an operand.
-fn operand_psw(storage: &[u8], first: u32, count: u32, second: u32) -> Psw
+fn operand_psw(storage: &[u8], first: u32, count: u32, second: u32, system370: bool) -> Psw
     requires { ⌜ count ≤ 8 ⌝ }
     requires { ⌜ first + count ≤ length (now storage) ⌝ }
     requires { ⌜ second + (8 - count) ≤ length (now storage) ⌝ }
-    ensures { λ r. ⌜ r ≡ pswOf (take count (drop first (now (storage .entry))) ++ take (8 - count) (drop second (now (storage .entry)))) 0 ⌝ }
+    ensures { λ r. ⌜ r ≡ pswOf system370 (take count (drop first (now (storage .entry))) ++ take (8 - count) (drop second (now (storage .entry)))) 0 ⌝ }
 {
     if count as usize == DOUBLE {
-        return psw_at(storage, first as usize);
+        return psw_at(storage, first as usize, system370);
     }
     let mut bytes = [0; DOUBLE];
     get_operand(&mut bytes[..], storage, first, count, second);
-    psw_at(&bytes[..], 0)
+    psw_at(&bytes[..], 0, system370)
 }
 
 // The control registers with n words of these bytes in those from register i on, through 15 to 0.
@@ -183,7 +187,7 @@ pub fn load_psw(
     if o.shut {
         return done;
     }
-    let psw = operand_psw(storage, o.first, o.count, o.second);
+    let psw = operand_psw(storage, o.first, o.count, o.second, cpu.psw.system370);
     execute::with_psw(cpu, psw)
 }
 

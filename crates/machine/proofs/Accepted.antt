@@ -2,18 +2,22 @@
 -- Assumes nothing.
 use Prim.Native.Nat.{ℕ, zero, suc, _*_, _/_, _%_, _≤_, _<_}
 use native.Mathlib.Omega.{arith}
-use mathlib.Core.Path.{_≡_, ap, _∙_}
-use mathlib.Core.Bool.{true, false}
+use mathlib.Core.Path.{_≡_, refl, ap, _∙_}
+use mathlib.Core.Bool.{Bool, true, false, _&&_, _||_}
 use mathlib.Core.List.{List}
+use mathlib.Core.Logic.{⊎-elim}
+use lib.Dec.{eqb, leb}
 use lib.ListN.{length}
-use borrow.Author.Tests.{eq-eqb, ne-eqb, le-ltb}
+use borrow.Author.Tests.{eqb-true, eq-eqb, ne-eqb, le-ltb, lt-leb}
 use Rattle.machine.specs.declared.Answer.the-variants.{Ended}
 use Rattle.machine.specs.declared.End.the-variants.{Intercepted}
 use Rattle.machine.specs.declared.Numbers.{Numbers}
 use Rattle.machine.specs.declared.Reason.the-variants.{Stop}
-use Rattle.machine.specs.Record.{guestOf}
+use Rattle.machine.specs.Words.{byteAt}
+use Rattle.machine.specs.Record.{longLength, versionFor, guestOf, residueOf}
+use Rattle.machine.specs.Interval.{period}
 use Rattle.machine.specs.Sizes.{frameBytes}
-use Rattle.machine.specs.Refusals.{mostFrames, mostUnits, mostTime, wrongLength, wrongVersion, wrongStorage, wrongKeys, wrongBudget, wrongTime, reservedUsed, wrongAccess, checkVerdict, translateVerdict, runVerdict}
+use Rattle.machine.specs.Refusals.{mostFrames, mostUnits, mostTime, wrongLength, wrongVersion, wrongStorage, wrongKeys, wrongBudget, wrongTime, used, wrongInterval, reservedUsed, wrongAccess, checkVerdict, translateVerdict, runVerdict}
 use Rattle.machine.specs.Units.{stopRequested, unit}
 use Rattle.machine.specs.Run.{Machine, unitFrom, stepOf, step, onward, run}
 use Rattle.machine.specs.Operations.{resultOf, machineOf, runAs, runOf}
@@ -24,11 +28,11 @@ use Rattle.machine.proofs.Verdicts.{unused}
 module _ (r storage keys : List ℕ) (good : GoodInput r storage keys) where
   length-good : wrongLength r ≡ false
   unfolding wrongLength
-  length-good = rw (good .long, good .lengthField)
+  length-good = rw (good .lengthField) (⊎-elim (λ short. rw short) (λ long. rw long) (good .long))
 
   version-good : wrongVersion r ≡ false
   unfolding wrongVersion
-  version-good = rw (good .version)
+  version-good = rw (eq-eqb (byteAt r 2) (versionFor (length r)) (good .version))
 
   storage-good : wrongStorage storage ≡ false
   unfolding wrongStorage
@@ -43,9 +47,19 @@ module _ (r storage keys : List ℕ) (good : GoodInput r storage keys) where
   unfolding wrongKeys
   keys-good = rw (eq-eqb (length keys) (length storage / frameBytes) (omega (arith, good)))
 
+  interval-good : wrongInterval r ≡ false
+  unfolding wrongInterval
+  interval-good = by-length (eqb (length r) longLength) refl
+    where
+      by-length : (b : Bool) → eqb (length r) longLength ≡ b → (b && (used r 201 3 || leb period (residueOf r))) ≡ false
+      by-length true e =
+          let long : length r ≡ longLength = eqb-true (length r) longLength e in
+          rw (unused r 201 3 (good .reservedToo long), lt-leb period (residueOf r) (good .residue long))
+      by-length false e = refl
+
   reserved-good : reservedUsed r ≡ false
   unfolding reservedUsed
-  reserved-good = unused r 66 6 (good .reserved)
+  reserved-good = rw (unused r 66 6 (good .reserved), interval-good)
 
   access-good : (kind : ℕ) → kind ≤ 2 → wrongAccess kind ≡ false
   unfolding wrongAccess

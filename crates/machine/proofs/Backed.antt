@@ -20,24 +20,25 @@ use Rattle.machine.specs.declared.Reason.{Reason}
 use Rattle.machine.specs.declared.Text.{Text}
 use Rattle.machine.specs.declared.Walk.{Walk}
 use Rattle.machine.specs.declared.Walk.the-variants.{Page, Failed}
-use Rattle.machine.specs.Record.{guestOf, cpuOf}
+use Rattle.machine.specs.Record.{guestOf}
 use Rattle.machine.specs.Sizes.{pageBytes}
 use Rattle.machine.specs.Entry.{extentBytes, entryGood}
-use Rattle.machine.specs.Psw.{instructionAddress}
+use Rattle.machine.specs.Interval.{wordPlace}
+use Rattle.machine.specs.Psw.{basicControl, instructionAddress}
 use Rattle.machine.specs.Failures.{protection, isTranslation, hostFault, exceptionOf}
 use Rattle.machine.specs.Walk.{walk, walkSegment, walkPage}
 use Rattle.machine.specs.Host.{Host, Cell, absent, present, Located, places, hostVirtual, hostEntry, inStorage, hostPage, backing, cellOf, view}
 use Rattle.machine.specs.Addresses.{prefixed, realPage, Access, reached, denied, settle, realAccess, inPage, lowProtected, access, Accesses, all, stopped, andThen, accesses, upFrom, whenReached}
 use Rattle.machine.specs.Outcomes.{Effects, Outcome, completed, intercepted, faulted, Progress}
-use Rattle.machine.specs.Interruptions.{withBytes, Areas, programAreas, codeFields, interrupt, afterException, programFields, exception}
-use Rattle.machine.specs.Execute.{finish, fetching, storing, summed, branch, execute, loadRegister, add, subtract, branchRegister, branchIndexed, supervisorCall, loadAddress, store, load, loadPsw, storeControl, loadControl, storeClock, setTimer, storeTimer, interceptInstruction}
+use Rattle.machine.specs.Interruptions.{withBytes, Areas, programAreas, codeFields, fieldsBeside, interrupt, afterException, programFields, exception}
+use Rattle.machine.specs.Execute.{immediate, next, finish, fetching, storing, summed, branch, execute, loadRegister, add, subtract, branchRegister, branchIndexed, supervisorCall, loadAddress, store, load, loadPsw, storeControl, loadControl, storeClock, setTimer, storeTimer, interceptInstruction}
 use Rattle.machine.specs.Units.{decoded, halfword, reading, fetchThird, fetchSecond, started, instruction, unit}
-use Rattle.machine.specs.Run.{Machine, counted, onward, hostOf, unitFrom, behindOf, afterUnit, stepOf, step, run}
+use Rattle.machine.specs.Run.{Machine, counted, onward, hostOf, unitFrom, behindOf, afterUnit, withTick, withWord, wordAccesses, Step, goes, step, run}
 use Rattle.machine.specs.Operations.{resultOf, machineOf}
-use Rattle.machine.specs.Theorems.{HasPage, Each, none, more, EffectsAreBacked, FaultsAreTheHosts}
+use Rattle.machine.specs.Theorems.{HasPage, Each, none, more, EffectsAreBacked, WordIsBacked, FaultsAreTheHosts}
 use Rattle.machine.proofs.Tests.{on-either-arm, by-test}
-use Rattle.machine.proofs.Laws.{guest-of-withCpu, guest-of-withResults}
-use Rattle.machine.proofs.Runs.{runOf-cases}
+use Rattle.machine.proofs.Laws.{guest-of-withCpu, guest-of-withResults, guest-of-withRequest, guest-of-withInterval}
+use Rattle.machine.proofs.Runs.{exit-keeps, step-cases, left-by, step-keeps, runOf-cases}
 use Rattle.machine.proofs.Entry.{entry-placed}
 use Rattle.machine.proofs.Backing.{read-or-not}
 
@@ -61,6 +62,11 @@ each-upFrom limit a (suc n) h = more {a = a} (omega arith) (each-upFrom limit (a
 fields-short : (x : Progress) (f : Failure) → length (programFields x f) ≤ 8
 unfolding programFields
 fields-short x f = on-either-arm (λ address. length (codeFields (x .text .ilc) (f .code) ++ address) ≤ 8) (isTranslation (f .code)) (omega arith) (omega arith)
+
+-- beside a BC PSW there are none
+beside-short : (c : Cpu) (fields : List ℕ) (most : ℕ) → length fields ≤ most → length (fieldsBeside c fields) ≤ most
+unfolding fieldsBeside
+beside-short c fields most short = on-either-arm (λ (l : List ℕ). length l ≤ most) (basicControl c) (omega arith) short
 
 module _ (g : Guest) (v : ℕ → Cell) (H : Failure → Type 0) (of-host : (f : Failure) → f .host ≡ true → H f)
     (covered : (i : ℕ) (f : Failure) → i < pageBytes → v (g .prefix * pageBytes + i) ≡ absent f → H f) where
@@ -157,12 +163,13 @@ module _ (g : Guest) (v : ℕ → Cell) (H : Failure → Type 0) (of-host : (f :
     text : Each Stands (x .fetched)
 
   module _ (x : Progress) (started : Fetched x) where
-    interrupt-sound : (c : Cpu) (areas : Areas) (fields : List ℕ) → areas .old + 8 ≤ pageBytes → areas .code + length fields ≤ pageBytes
-        → areas .new + 8 ≤ pageBytes → Sound (interrupt x c areas fields)
+    interrupt-sound : (c : Cpu) (areas : Areas) (code : ℕ) (fields : List ℕ) → areas .old + 8 ≤ pageBytes
+        → areas .code + length fields ≤ pageBytes
+        → areas .new + 8 ≤ pageBytes → Sound (interrupt x c areas code fields)
     unfolding interrupt
-    interrupt-sound c areas fields old code new =
+    interrupt-sound c areas code fields old beside new =
         rw (started .guest, started .view)
-        (when-good Sound (all-real-good true (each-append (each-upFrom _ _ _ old) (each-upFrom _ _ _ code))) (λ f. faults) λ stores s.
+        (when-good Sound (all-real-good true (each-append (each-upFrom _ _ _ old) (each-upFrom _ _ _ beside))) (λ f. faults) λ stores s.
         when-good Sound (all-real-good false (each-upFrom _ _ _ new)) (λ f. faults) λ fetched t.
         completes (each-append (started .text) t) (each-withBytes stores _ s))
 
@@ -170,8 +177,13 @@ module _ (g : Guest) (v : ℕ → Cell) (H : Failure → Type 0) (of-host : (f :
     unfolding exception
     exception-sound c f = search (by-test Sound, on-either-arm Sound, faults, of-host f, exits, interrupted)
       where
-        interrupted : Sound (interrupt x (afterException x c f) programAreas (programFields x f))
-        interrupted = interrupt-sound _ programAreas _ (omega arith) (omega (arith, fields-short x f)) (omega arith)
+        after : Cpu
+        after = afterException x c f
+
+        interrupted : Sound (interrupt x after programAreas (f .code) (fieldsBeside after (programFields x f)))
+        interrupted =
+            interrupt-sound _ programAreas _ _ (omega arith)
+            (omega (arith, beside-short after (programFields x f) 8 (fields-short x f))) (omega arith)
 
     operand-sound : (store : Bool) (l : List ℕ) {onward : List Located → Outcome} → ((ls : List Located) → Each Stands (places ls) → Sound (onward ls))
         → Sound (whenReached (accesses (access (x .guest) (x .view) (x .cpu) store) l) (exception x (x .cpu)) onward)
@@ -203,7 +215,9 @@ module _ (g : Guest) (v : ℕ → Cell) (H : Failure → Type 0) (of-host : (f :
     execute-sound Ar = summed-sound _ _
     execute-sound Sr = summed-sound _ _
     execute-sound Bcr = finish-sound _
-    execute-sound Svc = interrupt-sound _ _ _ (omega arith) (omega arith) (omega arith)
+    execute-sound Svc =
+        interrupt-sound _ _ _ _ (omega arith)
+        (omega (arith, beside-short (next x (x .cpu)) (codeFields (x .text .ilc) (immediate x)) 4 (omega arith))) (omega arith)
     execute-sound La = finish-sound _
     execute-sound Bc = finish-sound _
     execute-sound St = storing-sound _ _ _
@@ -242,12 +256,16 @@ module _ (g : Guest) (v : ℕ → Cell) (H : Failure → Type 0) (of-host : (f :
       on-either-arm Sound (eqb (instructionAddress (x .cpu) % 2) 1) (exception-sound x h _ _)
       (operand-sound x h false _ λ first s. fetchSecond-sound _ (reading-fetched x h _ first s))
 
-  unit-sound : (clock : ℕ) (c : Cpu) → Sound (unit g clock v c)
+  unit-sound : (clock : ℕ) (requested : Bool) (c : Cpu) → Sound (unit g clock requested v c)
   unfolding unit
-  unit-sound clock c = search (on-either-arm Sound, exits, exception-sound (started g clock v c 0) (fresh 0), instruction-sound (started g clock v c 1) (fresh 1)) depth 9
+  unit-sound clock requested c =
+      search (on-either-arm Sound, exits, exception-sound (started g clock v c 0) (fresh 0), instructed) depth 10
     where
       fresh : (ilc : ℕ) → Fetched (started g clock v c ilc)
       fresh ilc = record { guest = refl; view = refl; text = none }
+
+      instructed : Sound (instruction (started g clock v c 1))
+      instructed = instruction-sound (started g clock v c 1) (fresh 1)
 
 -- a host walk fails by a host fault alone
 data OfHost : Walk → Type 0 where
@@ -308,7 +326,7 @@ module _ (n : Numbers) (m : Machine) where
       (covered : (i : ℕ) (f : Failure) → i < pageBytes → view here (hostOf n m) (here .prefix * pageBytes + i) ≡ absent f → H f)
       → Sound here (view here (hostOf n m)) H of-host covered (unitFrom n m)
   unfolding unitFrom
-  unitFrom-sound H of-host covered = unit-sound here (view here (hostOf n m)) H of-host covered (m .clock) (cpuOf (m .description))
+  unitFrom-sound H of-host covered = unit-sound here (view here (hostOf n m)) H of-host covered _ _ _
 
   unitFrom-faults : entryGood here ≡ true → (f : Failure) → unitFrom n m ≡ faulted f → f .host ≡ true
   unitFrom-faults good f e = by-outcome (subst (Sound _ _ _ _ _) e (unitFrom-sound (λ f. f .host ≡ true) (λ f host. host) (prefix-of-host here (hostOf n m) good)))
@@ -316,9 +334,46 @@ module _ (n : Numbers) (m : Machine) where
       by-outcome : Sound here (view here (hostOf n m)) (λ f. f .host ≡ true) (λ f host. host) (prefix-of-host here (hostOf n m) good) (faulted f) → f .host ≡ true
       by-outcome (faults host) = host
 
+-- whatever fails
+abbrev Anything : Failure → Type 0
+Anything f = Unit
+
+module _ (n : Numbers) (m : Machine) where
+  -- where something stands in the view of a machine
+  abbrev StandsFor : ℕ → Type 0
+  StandsFor = Stands (here n m) (view (here n m) (hostOf n m)) Anything (λ f host. tt) (λ i f low lacks. tt)
+
+  have-pages : {l : List ℕ} → Each StandsFor l → Each (HasPage (behindOf n m)) l
+  unfolding behindOf
+  have-pages none = none
+  have-pages (more s l) = more (stands-on-page (here n m) (hostOf n m) Anything (λ f host. tt) (λ i f low lacks. tt) _ s) (have-pages l)
+
 pub effects-are-backed : EffectsAreBacked
-unfolding behindOf
-effects-are-backed n m c e same = by-outcome (subst (Sound _ _ _ _ _) same (unitFrom-sound n m (λ f. Unit) (λ f host. tt) (λ i f low lacks. tt)))
+effects-are-backed n m c e same =
+    by-outcome (subst (Sound _ _ _ _ _) same (unitFrom-sound n m Anything (λ f host. tt) (λ i f low lacks. tt)))
+  where
+    by-outcome : Sound (here n m) (view (here n m) (hostOf n m)) Anything (λ f host. tt) (λ i f low lacks. tt) (completed c e)
+        → Each (HasPage (behindOf n m)) (e .fetched) × Each (HasPage (behindOf n m)) (places (e .stores))
+    by-outcome (completes fetched stores) = (have-pages n m fetched, have-pages n m stores)
+
+pub word-is-backed : WordIsBacked
+unfolding wordAccesses
+word-is-backed n m at e = by-accesses (subst (GoodAll _ _ _ _ _ _) e reach)
+  where
+    reach : GoodAll (here n m) (view (here n m) (hostOf n m)) Anything (λ f host. tt) (λ i f low lacks. tt) Anything (wordAccesses n m)
+    reach =
+        all-real-good (here n m) (view (here n m) (hostOf n m)) Anything (λ f host. tt) (λ i f low lacks. tt) true
+        (each-upFrom pageBytes wordPlace 4 (omega arith))
+
+    by-accesses : GoodAll (here n m) (view (here n m) (hostOf n m)) Anything (λ f host. tt) (λ i f low lacks. tt) Anything (all at)
+        → Each (HasPage (behindOf n m)) (places at)
+    by-accesses (reachesAll s) = have-pages n m s
+
+-- the interval timer's word fails by the host alone
+word-faults : (n : Numbers) (m : Machine) → entryGood (guestOf (m .description)) ≡ true → (f : Failure) → wordAccesses n m ≡ stopped f
+    → f .host ≡ true
+unfolding wordAccesses
+word-faults n m good f e = by-accesses (subst (GoodAll g v OfHosts (λ f host. host) (prefix-of-host g h good) OfHosts) e reach)
   where
     g : Guest
     g = guestOf (m .description)
@@ -326,24 +381,42 @@ effects-are-backed n m c e same = by-outcome (subst (Sound _ _ _ _ _) same (unit
     h : Host
     h = hostOf n m
 
-    pages : {l : List ℕ} → Each (Stands g (view g h) (λ f. Unit) (λ f host. tt) (λ i f low lacks. tt)) l → Each (HasPage (backing g h)) l
-    pages none = none
-    pages (more s l) = more (stands-on-page g h (λ f. Unit) (λ f host. tt) (λ i f low lacks. tt) _ s) (pages l)
+    v : ℕ → Cell
+    v = view g h
 
-    by-outcome : Sound g (view g h) (λ f. Unit) (λ f host. tt) (λ i f low lacks. tt) (completed c e)
-        → Each (HasPage (backing g h)) (e .fetched) × Each (HasPage (backing g h)) (places (e .stores))
-    by-outcome (completes fetched stores) = (pages fetched, pages stores)
+    OfHosts : Failure → Type 0
+    OfHosts f = f .host ≡ true
+
+    reach : GoodAll g v OfHosts (λ f host. host) (prefix-of-host g h good) OfHosts (wordAccesses n m)
+    reach = all-real-good g v OfHosts (λ f host. host) (prefix-of-host g h good) true (each-upFrom pageBytes wordPlace 4 (omega arith))
+
+    by-accesses : GoodAll g v OfHosts (λ f host. host) (prefix-of-host g h good) OfHosts (stopped f) → f .host ≡ true
+    by-accesses (stops host) = host
+
+-- a step keeps the guest
+step-guest : (n : Numbers) (m : Machine) → guestOf ((left-by (step n m)) .description) ≡ guestOf (m .description)
+unfolding afterUnit withTick withWord
+step-guest n m =
+    step-keeps n (λ (k : Machine). guestOf (k .description) ≡ guestOf (m .description)) (λ k c e same. guest-of-withCpu _ _ ∙ same)
+    (λ request residue k same. guest-of-withInterval request residue _ ∙ same) (λ behind at w k same. same)
+    (exit-keeps (λ d. guestOf d ≡ guestOf (m .description)) (λ c d same. guest-of-withCpu c d ∙ same)
+    λ q d same. guest-of-withRequest q d ∙ same)
+    m refl
 
 run-faults : (b : ℕ) (n : Numbers) (m : Machine) → entryGood (guestOf (m .description)) ≡ true → (f : Failure) → (run b n m) .end ≡ HostFault f → f .host ≡ true
-unfolding run step onward stepOf counted afterUnit
+unfolding run onward counted
 run-faults zero n m good f e = let z : _≡_ {A = ℕ} 0 1 = cc in absurd (omega arith)
-run-faults (suc b) n m good f e = by-outcome (λ after same. run-faults b n after same f) (unitFrom n m) refl e
+run-faults (suc b) n m good f e =
+    step-cases n m Host's (λ c x is next u same ended. run-faults b n next (ap entryGood (after same) ∙ good) f ended)
+    (λ r c is same ended. let z : _≡_ {A = ℕ} 0 1 = cc in absurd (omega arith))
+    (λ f′ is same ended. let s : f′ ≡ f = cc in subst (λ f. f .host ≡ true) s (unitFrom-faults n m good f′ is))
+    (λ f′ is same ended. let s : f′ ≡ f = cc in subst (λ f. f .host ≡ true) s (word-faults n m good f′ is)) refl e
   where
-    by-outcome : ((after : Machine) → entryGood (guestOf (after .description)) ≡ true → (run b n after) .end ≡ HostFault f → f .host ≡ true)
-        → (o : Outcome) → unitFrom n m ≡ o → (onward (run b n) (stepOf n m o)) .end ≡ HostFault f → f .host ≡ true
-    by-outcome later (completed c effects) same e = later _ (ap entryGood (guest-of-withCpu _ _) ∙ good) e
-    by-outcome later (intercepted r c) same e = let z : _≡_ {A = ℕ} 0 1 = cc in absurd (omega arith)
-    by-outcome later (faulted f′) same e = let s : f′ ≡ f = cc in subst (λ f. f .host ≡ true) s (unitFrom-faults n m good f′ same)
+    Host's : Step → Type 0
+    Host's s = step n m ≡ s → (onward (run b n) s) .end ≡ HostFault f → f .host ≡ true
+
+    after : {next : Machine} → step n m ≡ goes next → guestOf (next .description) ≡ guestOf (m .description)
+    after same = rw same at (step-guest n m)
 
 pub faults-are-the-hosts : FaultsAreTheHosts
 unfolding resultOf machineOf

@@ -9,7 +9,7 @@ use lib.Seq.{getD-set-other}
 use Rattle.machine.specs.declared.Walk.{Walk}
 use Rattle.machine.specs.declared.Walk.the-variants.{Page, Failed}
 use Rattle.machine.specs.Sizes.{frameBytes}
-use Rattle.machine.specs.Host.{Located, storeByte, stored, markKey, marked, referenced, changed}
+use Rattle.machine.specs.Host.{Located, storeByte, stored, byteIn, bytesBehind, markKey, marked, referenced, changed}
 use Rattle.machine.specs.Outcomes.{Effects}
 use Rattle.machine.specs.Run.{markedBy}
 use Rattle.machine.proofs.FrameBytes.{In, in-frame}
@@ -61,6 +61,17 @@ module _ (P : ℕ → Type 0) (behind : ℕ → Walk) (into : (a f : ℕ) (p : B
       go : (w : Walk) → ((f : ℕ) (p : Bool) → w ≡ Page f p → P f) → Alike (In P) start₁ start₂ (storeByte w l s₁) (storeByte w l s₂)
       go (Failed x) h = a
       go (Page f p) h = set-alike (In P) start₁ start₂ s₁ s₂ _ _ _ (in-frame P f (l .absolute % frameBytes) (omega arith) (h f p refl)) refl a
+
+  -- what stands at places is the same through these pages
+  pub bytes-alike : (ls : List Located) (s₁ s₂ : List ℕ) → Alike (In P) start₁ start₂ s₁ s₂
+      → bytesBehind behind s₁ ls ≡ bytesBehind behind s₂ ls
+  unfolding byteIn
+  bytes-alike [] s₁ s₂ a = refl
+  bytes-alike (l ∷ ls) s₁ s₂ a = λ i. go (behind (l .absolute)) (into (l .absolute)) i ∷ bytes-alike ls s₁ s₂ a i
+    where
+      go : (w : Walk) → ((f : ℕ) (p : Bool) → w ≡ Page f p → P f) → byteIn w s₁ (l .absolute) ≡ byteIn w s₂ (l .absolute)
+      go (Failed x) h = refl
+      go (Page f p) h = a .inside _ (in-frame P f (l .absolute % frameBytes) (omega arith) (h f p refl))
 
   marked-alike : (mark : ℕ → ℕ) (at : List ℕ) (k₁ k₂ : List ℕ) → Alike P start₁ start₂ k₁ k₂ → Alike P start₁ start₂ (marked behind mark at k₁) (marked behind mark at k₂)
   unfolding marked markKey

@@ -2,7 +2,7 @@
 use Prim.Native.Nat.{ℕ, _+_, _-_, _*_, _/_, _%_, _^_, _<_, _≤_}
 use native.Mathlib.Nat.{zero-add, div-add-mod'}
 use native.Mathlib.Omega.{arith}
-use mathlib.Core.Path.{_≡_, refl}
+use mathlib.Core.Path.{_≡_, refl, _∙_}
 use mathlib.Core.Bool.{Bool, true, false, cond}
 use mathlib.Core.List.{List, [], _++_}
 use lib.Dec.{eqb}
@@ -18,9 +18,9 @@ use Rattle.machine.specs.declared.Walk.{Walk}
 use Rattle.machine.specs.declared.Walk.the-variants.{Page, Failed}
 use Rattle.machine.specs.Words.{bits, wordAt}
 use Rattle.machine.specs.Record.{guestOf, pswOf, cpuOf}
-use Rattle.machine.specs.Refusals.{wrongLength, wrongVersion, wrongStorage, wrongKeys, used, reservedUsed, wrongAccess, translateVerdict}
-use Rattle.machine.specs.Entry.{modeInstalled, extentFits, prefixFits, entryGood}
-use Rattle.machine.specs.Psw.{datOn, conditionCode, overflowEnabled, wrap, withPsw, withTimer, control, general, withGeneral, withAddress, advanced, withConditionCode}
+use Rattle.machine.specs.Refusals.{wrongLength, wrongVersion, wrongStorage, wrongKeys, used, wrongInterval, reservedUsed, wrongAccess, translateVerdict}
+use Rattle.machine.specs.Entry.{modeInstalled, extentFits, prefixFits, prefixShort, entryGood}
+use Rattle.machine.specs.Psw.{pswBit, datOn, conditionCode, instructionAddress, overflowEnabled, wrap, withPsw, withTimer, control, general, withGeneral, withAddress, advanced, withConditionCode}
 use Rattle.machine.specs.Time.{guestClock, comparatorDue, timerDue, timerAfter, charged}
 use Rattle.machine.specs.Failures.{segmentTranslation, pageTranslation, addressing, hostFault, exceptionOf, walkException}
 use Rattle.machine.specs.Walk.{walkPage, walkSegment, walk}
@@ -28,7 +28,7 @@ use Rattle.machine.specs.Host.{Host, Cell, hostEntry, inStorage, hostPag
 use Rattle.machine.specs.Addresses.{prefixed, formatGood, realPage, settle, keyProtects, inPage, access, denied}
 use Rattle.machine.specs.Outcomes.{Effects, completed, Progress}
 use Rattle.machine.specs.Execute.{r1, r2, next, finish, sumCode, withSum, summed, add, execute}
-use Rattle.machine.specs.Operations.{addressIn, translatedTo, translatedAs, translate}
+use Rattle.machine.specs.Operations.{addressIn, translatedTo, translates, translatedAs, translate}
 use Rattle.machine.specs.Examples.{Setup, StarredExamples}
 
 -- prefix 0 exchanges nothing
@@ -42,7 +42,7 @@ unprefixed g a none = rw none (go (eqb (a / 4096) 0) refl)
 
 module _ (r : List ℕ) (h : Host) (s : Setup r h) where
   entry-good : entryGood (guestOf r) ≡ true
-  unfolding entryGood extentFits prefixFits
+  unfolding entryGood extentFits prefixFits prefixShort
   entry-good = rw (s .mode, s .origin, s .extent, s .prefix)
 
   wrapped : (a : ℕ) → a < 2 ^ 31 → wrap (cpuOf r) a ≡ a
@@ -51,7 +51,7 @@ module _ (r : List ℕ) (h : Host) (s : Setup r h) where
 
   -- with DAT off, prefix 0 and key 0 a fetch meets no test but the host's
   fetched : (a : ℕ) → a < 2 ^ 31 → translate r h a 0 ≡ addressIn a (backing (guestOf r) h a)
-  unfolding translate translatedAs translatedTo access realPage inPage view keyProtects cellOf settle addressIn
+  unfolding translate translatedAs translates translatedTo access realPage inPage view keyProtects cellOf settle addressIn
   fetched a small =
       rw (s .accepted, entry-good, wrapped, s .datOff, div-add-mod', unprefixed, s .prefix)
       (go (backing (guestOf r) h a) refl)
@@ -115,12 +115,53 @@ comparator-reached : (g : Guest) (clock : ℕ) → guestClock g clock ≡ g .com
 unfolding comparatorDue
 comparator-reached g clock reached = le-ltb (g .comparator) (guestClock g clock) (omega arith)
 
+bit-below : (x : ℕ) → x % 2 ^ 18 / 2 ^ 5 % 2 ≡ x / 2 ^ 5 % 2
+bit-below x = omega arith
+
+-- the condition code that was set, in each form of the PSW
+code-set : (c : Cpu) (code : ℕ) → code < 4 → conditionCode (withConditionCode c code) ≡ code
+unfolding withConditionCode withPsw
+code-set c code small = by-form (c .psw .system370) refl (pswBit 12 c) refl
+  where
+    set : ℕ
+    set = bits 32 0 17 (c .psw .left) * 2 ^ 14 + code * 2 ^ 12 + bits 32 20 31 (c .psw .left)
+
+    kept : set / 2 ^ 19 % 2 ≡ c .psw .left / 2 ^ 19 % 2
+    kept =
+        let high : set / 2 ^ 14 ≡ bits 32 0 17 (c .psw .left) = omega arith in
+        let first : set / 2 ^ 19 ≡ set / 2 ^ 14 / 2 ^ 5 = omega arith in
+        let second : c .psw .left / 2 ^ 19 ≡ c .psw .left / 2 ^ 14 / 2 ^ 5 = omega arith in
+        rw (first, second, high) (bit-below (c .psw .left / 2 ^ 14))
+
+    by-form : (a : Bool) → c .psw .system370 ≡ a → (b : Bool) → pswBit 12 c ≡ b → conditionCode (withConditionCode c code) ≡ code
+    by-form true e true f = rw (e, f, kept, f) (omega arith)
+    by-form true e false f = rw (e, f, f) (omega arith)
+    by-form false e b f = rw e (omega arith)
+
+-- another address leaves it
+code-kept : (c : Cpu) (a : ℕ) → conditionCode (withAddress c a) ≡ conditionCode c
+unfolding withAddress withPsw wrap
+code-kept c a = by-form (c .psw .system370) refl (pswBit 12 c) refl
+  where
+    by-form : (s : Bool) → c .psw .system370 ≡ s → (b : Bool) → pswBit 12 c ≡ b → conditionCode (withAddress c a) ≡ conditionCode c
+    by-form true e true f = rw (e, f)
+    by-form true e false f = rw (e, f) (omega arith)
+    by-form false e b f = rw e
+
 add-overflows : (x : Progress) → length (x .cpu .general .words) ≡ 16 → general (x .cpu) (r1 x) ≡ 0x7fffffff → general (x .cpu) (r2 x) ≡ 1
     → overflowEnabled (x .cpu) ≡ false
     → (c : Cpu) × (e : Effects) × (execute Ar x ≡ completed c e) × (general c (r1 x) ≡ 0x80000000) × (conditionCode c ≡ 3)
 unfolding execute add summed withSum sumCode finish advanced withAddress withConditionCode withGeneral withPsw
-add-overflows x sixteen most one disabled =
-    (next x (withSum (x .cpu) (r1 x) 0x80000000 true), record { fetched = x .fetched ++ []; stores = [] }, rw (most, one, disabled), getD-set-same (x .cpu .general .words) (r1 x) 0x80000000 0 (omega arith), omega arith)
+add-overflows x sixteen most one disabled = (
+  next x summed,
+  record { fetched = x .fetched ++ []; stores = [] },
+  rw (most, one, disabled),
+  getD-set-same (x .cpu .general .words) (r1 x) 0x80000000 0 (omega arith),
+  code-kept summed (instructionAddress summed + 2 * x .text .ilc) ∙ code-set (withGeneral (x .cpu) (r1 x) 0x80000000) 3 (omega arith),
+)
+  where
+    summed : Cpu
+    summed = withSum (x .cpu) (r1 x) 0x80000000 true
 
 pub starred-examples : StarredExamples
 starred-examples = record {
@@ -141,7 +182,8 @@ starred-examples = record {
 
 -- the setup can be met: a record, a storage and keys of zeros, but for the fields and words that it names
 pub setup-exists : (r : List ℕ) × (h : Host) × Setup r h
-unfolding translateVerdict wrongLength wrongVersion wrongStorage wrongKeys used reservedUsed wrongAccess guestOf cpuOf pswOf wordAt modeInstalled
+unfolding translateVerdict wrongLength wrongVersion wrongStorage wrongKeys used wrongInterval reservedUsed wrongAccess guestOf cpuOf pswOf
+    wordAt modeInstalled
 setup-exists = (
   description,
   host,

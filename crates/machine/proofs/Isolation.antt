@@ -1,7 +1,7 @@
 -- DEMAND 3: the proof of `Isolation`.
 use Prim.Native.Nat.{ℕ, _+_, _*_}
 use mathlib.Core.Path.{_≡_, refl, sym, ap, _∙_}
-use mathlib.Core.Bool.{Bool, true, false, cond}
+use mathlib.Core.Bool.{Bool, true, false, cond, _&&_}
 use mathlib.Core.List.{List}
 use mathlib.Core.Logic.{_↔_}
 use Rattle.machine.specs.declared.Answer.the-variants as answer
@@ -11,7 +11,7 @@ use Rattle.machine.specs.declared.Numbers.{Numbers}
 use Rattle.machine.specs.declared.Reason.the-variants.{Validity}
 use Rattle.machine.specs.declared.Verdict.{Verdict}
 use Rattle.machine.specs.declared.Verdict.the-variants.{Accepted, Refused}
-use Rattle.machine.specs.Record.{guestOf, withResults}
+use Rattle.machine.specs.Record.{guestOf, cpuOf, withResults}
 use Rattle.machine.specs.Sizes.{frameBytes}
 use Rattle.machine.specs.Refusals.{wrongStorage, wrongKeys, translateVerdict, runVerdict}
 use Rattle.machine.specs.Entry.{entryGood}
@@ -19,7 +19,7 @@ use Rattle.machine.specs.Host.{Host, host, backing, view}
 use Rattle.machine.specs.Frames.{GuestFrame}
 use Rattle.machine.specs.Addresses.{Access, reached, denied}
 use Rattle.machine.specs.Run.{Machine, Ended, run}
-use Rattle.machine.specs.Operations.{addressIn, translatedTo, translatedAs, translate, Result, resultOf, machineOf, runAs, runOf}
+use Rattle.machine.specs.Operations.{addressIn, translatedTo, translates, translatedAs, translate, Result, resultOf, machineOf, runAs, runOf}
 use Rattle.machine.specs.Answers.{endResults}
 use Rattle.machine.specs.Isolation.{RunFrame, Agree, Isolation}
 use Rattle.machine.specs.IsolationOfAnswers.{TranslationsAgree, IsolationOfTranslations}
@@ -75,7 +75,7 @@ module _ (n : Numbers) (r s₁ k₁ s₂ k₂ : List ℕ) where
       inside = agree .alike .keys;
     }
 
-    start-twins : Twins n r s₁ k₁ s₂ k₂ (machineOf n r s₁ k₁) (machineOf n r s₂ k₂)
+    pub start-twins : Twins n r s₁ k₁ s₂ k₂ (machineOf n r s₁ k₁) (machineOf n r s₂ k₂)
     unfolding machineOf
     start-twins = record {
       guest = guest-of-withResults _ r;
@@ -150,8 +150,15 @@ module _ (r : List ℕ) (kind d : ℕ) (s₁ k₁ s₂ k₂ : List ℕ) (agree :
   same-translation : (a : ℕ) (v : Verdict) → translateVerdict r s₁ k₁ kind ≡ v → translatedAs r (host d s₁ k₁) a kind v ≡ translatedAs r (host d s₂ k₂) a kind v
   unfolding translatedAs
   same-translation a (Refused number) e = refl
-  same-translation a Accepted accepted = same-test (entryGood (guestOf r)) (λ good. rw (views good) (same-translated (guestOf r) _ _ (pages good) _)) (λ _. refl)
+  same-translation a Accepted accepted =
+      same-test (entryGood (guestOf r) && translates (cpuOf r))
+      (λ both. let good = first (entryGood (guestOf r)) _ both in rw (views good) (same-translated (guestOf r) _ _ (pages good) _))
+      (λ _. refl)
     where
+      first : (b c : Bool) → (b && c) ≡ true → b ≡ true
+      first true c e = refl
+      first false c e = e
+
       pages : entryGood (guestOf r) ≡ true → backing (guestOf r) (host d s₁ k₁) ≡ backing (guestOf r) (host d s₂ k₂)
       pages good = same-backing (guestOf r) d s₁ s₂ (record { lengths = agree .lengths .0; entries = agree .entries accepted }) good k₁ k₂
 

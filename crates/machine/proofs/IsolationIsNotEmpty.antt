@@ -1,9 +1,10 @@
 -- The proofs of specs/IsolationIsNotEmpty: a guest on two hosts, with the host's tables in a frame of their own, and in the guest's.
-use Prim.Native.Nat.{ℕ, zero, suc, _+_, _*_, _/_, _<_}
+use Prim.Native.Nat.{ℕ, zero, suc, _+_, _*_, _<_}
 use native.Mathlib.Omega.{arith}
-use mathlib.Core.Path.{_≡_, refl, sym, ap, _∙_}
+use mathlib.Core.Path.{_≡_, refl, sym, _∙_}
+use mathlib.Core.Bool.{false}
 use mathlib.Core.List.{List, [], _∷_}
-use mathlib.Core.Logic.{_≢_, inr, ⊎-elim}
+use mathlib.Core.Logic.{_≢_, inr}
 use lib.ListN.{set, replicate, length-set, getD-replicate}
 use lib.Seq.{sets, getD-set-other}
 use Rattle.machine.specs.declared.Answer.the-variants.{Ended}
@@ -12,29 +13,34 @@ use Rattle.machine.specs.declared.Numbers.{Numbers}
 use Rattle.machine.specs.declared.Reason.the-variants.{Instruction, Program}
 use Rattle.machine.specs.Words.{byteAt, wordAt, wordsAt, wordBytes, wordsBytes}
 use Rattle.machine.specs.Record.{guestOf, cpuOf, pswOf, pswBytes, withCpu, withResults}
-use Rattle.machine.specs.Refusals.{wrongLength, wrongVersion, wrongStorage, wrongKeys, wrongBudget, wrongTime, used, reservedUsed, runVerdict}
-use Rattle.machine.specs.Entry.{entryGood, modeInstalled, extentFits, prefixFits}
+use Rattle.machine.specs.Refusals.{wrongLength, wrongVersion, wrongStorage, wrongKeys, wrongBudget, wrongTime, used, wrongInterval, reservedUsed, runVerdict}
+use Rattle.machine.specs.Interval.{active}
+use Rattle.machine.specs.Entry.{entryGood, modeInstalled, extentFits, prefixFits, prefixShort}
 use Rattle.machine.specs.Psw.{notInstalled, malformed, wrap, withPsw, withTimer, withAddress, advanced}
 use Rattle.machine.specs.Time.{charged}
 use Rattle.machine.specs.Walk.{walk, walkSegment, walkPage}
 use Rattle.machine.specs.Host.{hostEntry, inStorage, hostPage, backing, cellOf, view, storeByte, stored}
-use Rattle.machine.specs.Frames.{InExtent, segmentPlace, pagePlace, pageOf, Describes, GuestFrame}
+use Rattle.machine.specs.Frames.{InExtent}
 use Rattle.machine.specs.Addresses.{prefixed, realPage, settle, keyProtects, inPage, lowProtected, access, andThen, accesses, span, whenReached}
-use Rattle.machine.specs.Opcodes.{lengthOf, numberOf, find, opcodeOf}
+use Rattle.machine.specs.Opcodes.{lengthOf, numberOf, has, find, opcodeOf}
 use Rattle.machine.specs.Interruptions.{withBytes, exception}
 use Rattle.machine.specs.Execute.{addressPart, operandAddress, indexedAddress, finish, storing, store, interceptInstruction, execute}
 use Rattle.machine.specs.Units.{intercepts, misaligned, decoded, halfword, reading, fetchThird, fetchSecond, instruction, unit}
-use Rattle.machine.specs.Run.{hostOf, unitFrom, behindOf, afterUnit, afterInterception, stepOf, step, counted, onward, run}
+use Rattle.machine.specs.Run.{hostOf, requestedBy, unitFrom, behindOf, afterUnit, afterInterception, answered, ticked, stepOf, step, counted, onward, run}
 use Rattle.machine.specs.Answers.{results, endResults}
 use Rattle.machine.specs.Operations.{resultOf, machineOf, runAs, runOf}
 use Rattle.machine.specs.Isolation.{RunFrame, AgreeButApart}
 use Rattle.machine.specs.IsolationIsNotEmpty.{AgreeingHostsExist, EntriesMustBeApart}
-use Rattle.machine.proofs.Laws.{getD-sets-beside, SameBytes, word-of-bytes}
+use Rattle.machine.proofs.Laws.{getD-sets-beside, SameBytes}
+use Rattle.machine.proofs.OneFrame.{OneFrame, entry-in-frame-t, guest-frame-is-0}
 
 -- A guest of one block from origin 0, with the PSW 00080000 80000008 and 1000 hex in general register 1. A program exception is code 8.
 description : List ℕ
 description =
-    set (sets (sets (replicate 200 0) 1 (200 ∷ 1 ∷ 0 ∷ 8 ∷ 0x40 ∷ [])) 15 (1 ∷ pswBytes (record { left = 0x80000; right = 0x80000008 }))) 142 0x10
+    set
+    (sets (sets (replicate 200 0) 1 (200 ∷ 1 ∷ 0 ∷ 8 ∷ 0x40 ∷ [])) 15
+    (1 ∷ pswBytes (record { left = 0x80000; right = 0x80000008; system370 = false })))
+    142 0x10
 
 -- The host's tables stand in frame t, which is 0 or 1.
 numbers : ℕ → Numbers
@@ -79,41 +85,24 @@ module _ (t : ℕ) (small : t < 2) where
       zeros : List ℕ
       zeros = replicate ((t + 2) * 4096) 0
 
-  segment-place : (page : ℕ) → page < 16 → segmentPlace (t * 4096) page ≡ t * 4096
-  segment-place page h = omega arith
-
-  page-place : (page : ℕ) → page < 16 → pagePlace (t * 4096) (storage₁ t) page ≡ t * 4096 + 64 + page * 4
-  page-place page h = rw (segment-place page h, segment-entry t small) (omega arith)
-
-  page-entry : (page : ℕ) → page < 16 → pageOf (t * 4096) (storage₁ t) page ≡ 0
-  unfolding wordAt
-  page-entry page h =
-      ap (wordAt (storage₁ t)) (page-place page h)
-      ∙ word-of-bytes (storage₁ t) [] _ (λ i low high. page-table-is-zero i (omega arith) (omega arith))
-
-  entry-in-frame-t : (at : ℕ) → Describes (guestOf description) (t * 4096) (storage₁ t) at → at / 4096 ≡ t
-  entry-in-frame-t at h =
-      let page = page-of-extent (h .page) (h .inside) in
-      ⊎-elim (λ segment. omega (arith, segment-place (h .page) page)) (λ entry. omega (arith, page-place (h .page) page)) (h .which)
-
-  guest-frame-is-0 : (frame : ℕ) → GuestFrame (guestOf description) (t * 4096) (storage₁ t) frame → frame ≡ 0
-  guest-frame-is-0 frame h = omega (arith, page-entry (h .page) (page-of-extent (h .page) (h .inside)))
+  table : OneFrame (guestOf description) t (storage₁ t)
+  table = record { inside = page-of-extent; small = small; segment = segment-entry t small; zeros = page-table-is-zero }
 
   hosts-agree : AgreeButApart (numbers t) description (storage₁ t) (keys₁ t) (storage₂ t) (keys₂ t)
   unfolding numbers storage₂ keys₂ place
   hosts-agree = record {
     lengths = (simp length-set, simp length-set);
-    entries = λ at i h low high. byte i (λ e. omega (arith, entry-in-frame-t at (h .describes)));
-    frames = λ frame i h below. byte (frame * 4096 + i) (λ e. omega (arith, guest-frame-is-0 frame (h .guest)));
-    keys = λ frame h. sym (getD-set-other (keys₁ t) (t + 1) frame 0x10 0 (λ e. omega (arith, guest-frame-is-0 frame (h .guest))));
+    entries = λ at i h low high. byte i (λ e. omega (arith, entry-in-frame-t table at (h .describes)));
+    frames = λ frame i h below. byte (frame * 4096 + i) (λ e. omega (arith, guest-frame-is-0 table frame (h .guest)));
+    keys = λ frame h. sym (getD-set-other (keys₁ t) (t + 1) frame 0x10 0 (λ e. omega (arith, guest-frame-is-0 table frame (h .guest))));
   }
     where
       byte : (i : ℕ) → i ≢ place t → byteAt (storage₁ t) i ≡ byteAt (storage₂ t) i
       byte i h = sym (getD-set-other (storage₁ t) (place t) i 0x83 0 h)
 
 frame-0 : RunFrame (numbers 1) description (storage₁ 1) (keys₁ 1) 0
-unfolding description numbers storage₁ keys₁ runVerdict wrongLength wrongVersion wrongStorage wrongKeys wrongBudget wrongTime used reservedUsed wordAt
-    guestOf entryGood modeInstalled extentFits prefixFits
+unfolding description numbers storage₁ keys₁ runVerdict wrongLength wrongVersion wrongStorage wrongKeys wrongBudget wrongTime used
+    wrongInterval reservedUsed wordAt guestOf entryGood modeInstalled extentFits prefixFits prefixShort
 frame-0 = record {
   accepted = refl;
   guest = record {
@@ -143,13 +132,14 @@ answers : ((runOf (numbers 1) description (storage₁ 1) (keys₁ 1)) .answer �
     × ((runOf (numbers 0) description (storage₁ 0) (keys₁ 0)) .answer ≡ Ended (Intercepted (Program 1 1 0)) 1)
     × ((runOf (numbers 0) description (storage₂ 0) (keys₂ 0)) .answer
     ≡ Ended (Intercepted (Instruction (record { ilc = 2; first = 0x8300; second = 0; third = 0 }))) 1)
-unfolding description numbers storage₁ keys₁ storage₂ keys₂ place runOf runAs runVerdict wrongLength wrongVersion wrongStorage wrongKeys wrongBudget
-    wrongTime used reservedUsed wordAt wordsAt wordsBytes guestOf cpuOf pswOf withCpu withResults entryGood modeInstalled extentFits prefixFits resultOf
-    machineOf endResults results run onward step stepOf unitFrom hostOf behindOf afterUnit afterInterception counted charged withTimer unit instruction halfword reading
-    fetchSecond fetchThird decoded intercepts misaligned notInstalled malformed wrap withPsw withAddress advanced access accesses andThen span
-    whenReached inPage realPage settle prefixed keyProtects lowProtected view cellOf backing hostPage inStorage hostEntry stored storeByte walk
-    walkSegment walkPage lengthOf numberOf find opcodeOf execute store storing finish addressPart operandAddress indexedAddress interceptInstruction withBytes
-    exception
+unfolding description numbers storage₁ keys₁ storage₂ keys₂ place runOf runAs runVerdict wrongLength wrongVersion wrongStorage wrongKeys
+    wrongBudget wrongTime used wrongInterval reservedUsed wordAt wordsAt wordsBytes guestOf cpuOf pswOf withCpu withResults entryGood
+    modeInstalled extentFits prefixFits prefixShort active requestedBy ticked has resultOf machineOf endResults results run onward step
+    stepOf unitFrom hostOf behindOf afterUnit afterInterception answered counted charged withTimer unit instruction halfword reading
+    fetchSecond fetchThird decoded intercepts misaligned notInstalled malformed wrap withPsw withAddress advanced access accesses andThen
+    span whenReached inPage realPage settle prefixed keyProtects lowProtected view cellOf backing hostPage inStorage hostEntry stored
+    storeByte walk walkSegment walkPage lengthOf numberOf find opcodeOf execute store storing finish addressPart operandAddress
+    indexedAddress interceptInstruction withBytes exception
 answers = (refl, refl, refl, refl)
 
 pub agreeing-hosts-exist : AgreeingHostsExist
@@ -164,7 +154,10 @@ agreeing-hosts-exist = (
   record {
     agree = record {
       alike = hosts-agree 1 (omega arith);
-      apart = λ at frame entry guest e. omega (arith, entry-in-frame-t 1 (omega arith) at (entry .describes), guest-frame-is-0 1 (omega arith) frame (guest .guest));
+      apart =
+          let tables = table 1 (omega arith) in
+          λ at frame entry guest e.
+          omega (arith, entry-in-frame-t tables at (entry .describes), guest-frame-is-0 tables frame (guest .guest));
     };
     end = Intercepted (Program 1 1 0);
     units = 1;
@@ -174,7 +167,7 @@ agreeing-hosts-exist = (
     inside = frame-0;
     changed = λ e. omega (arith, answers .1);
     place = place 1;
-    outside = λ h. omega (arith, guest-frame-is-0 1 (omega arith) _ (h .guest));
+    outside = λ h. omega (arith, guest-frame-is-0 (table 1 (omega arith)) _ (h .guest));
     otherByte = λ e. omega arith;
     otherKey = λ e. omega arith;
   },

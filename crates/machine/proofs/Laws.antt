@@ -6,15 +6,15 @@ use native.Mathlib.Nat.{add-zero, suc-inj}
 use mathlib.Core.Path.{_≡_, refl, ap, sym, _∙_}
 use mathlib.Core.List.{List, [], _∷_}
 use mathlib.Core.Logic.{_⊎_, inl, inr, ⊎-elim}
-use lib.ListN.{length, getD, set, length-set}
+use lib.ListN.{length, getD, set, length-set, take}
 use lib.Seq.{sets, length-sets, getD-set-other, getD-set-same, set-comm, set-set}
 use Rattle.machine.specs.declared.Cpu.{Cpu}
 use Rattle.machine.specs.declared.End.{End}
 use Rattle.machine.specs.declared.End.the-variants.{Intercepted, HostFault, BudgetUsed}
 use Rattle.machine.specs.declared.Reason.the-variants.{Instruction, Program, ExternalRequest, External, IoRequest, Wait, Validity, Stop, Operation}
 use Rattle.machine.specs.Answers.{results, resultsWith, reasonResults, endResults}
-use Rattle.machine.specs.Words.{bits, byteAt, halfAt, wordAt, doubleAt, doubleBytes, wordsBytes}
-use Rattle.machine.specs.Record.{pswAt, timerAt, resultsAt, controlAt, generalAt, pswBytes, guestOf, withCpu, withResults}
+use Rattle.machine.specs.Words.{bits, byteAt, halfAt, wordAt, doubleAt, wordBytes, doubleBytes, wordsBytes}
+use Rattle.machine.specs.Record.{recordLength, GoodLength, pswAt, timerAt, resultsAt, controlAt, generalAt, requestAt, residueAt, pswBytes, registerBytes, guestOf, withCpu, withResults, withRequest, withInterval}
 
 module _ {ℓ} {A : Type ℓ} where
   -- what stands beside a run of stores stays
@@ -119,6 +119,10 @@ double-of-doubleBytes x =
     rw (half-value (x / 2 ^ 32 / 65536), half-value (x / 2 ^ 32), half-value (x / 65536), half-value x, word-value (x / 2 ^ 32), word-value x)
     (double-value x)
 
+-- both records have at least the 200 bytes of the shorter one
+pub good-length : (r : List ℕ) → GoodLength r → recordLength ≤ length r
+good-length r = ⊎-elim (λ short. omega arith) (λ long. omega arith)
+
 pub length-withCpu : (c : Cpu) (r : List ℕ) → length (withCpu c r) ≡ length r
 unfolding withCpu
 length-withCpu c r = simp length-sets
@@ -133,8 +137,9 @@ unfolding withCpu
 timer-of-withCpu c r long =
     double-of-bytes _ _ timerAt
     (λ i l h.
-    getD-sets-beside (sets timed controlAt (wordsBytes (c .control .words))) generalAt (wordsBytes (c .general .words)) i 0 (inl (omega arith))
-    ∙ getD-sets-beside timed controlAt (wordsBytes (c .control .words)) i 0 (inl (omega arith)))
+    getD-sets-beside (sets timed controlAt (registerBytes (c .control .words))) generalAt (registerBytes (c .general .words)) i 0
+    (inl (omega arith))
+    ∙ getD-sets-beside timed controlAt (registerBytes (c .control .words)) i 0 (inl (omega arith)))
     ∙ double-of-sets (sets r pswAt (pswBytes (c .psw))) timerAt (doubleBytes (c .timer)) (omega arith)
     (omega (arith, length-sets r pswAt (pswBytes (c .psw))))
     ∙ double-of-doubleBytes (c .timer)
@@ -142,15 +147,32 @@ timer-of-withCpu c r long =
     timed : List ℕ
     timed = sets (sets r pswAt (pswBytes (c .psw))) timerAt (doubleBytes (c .timer))
 
+-- no more bytes than the words that are taken
+pub registers-short : (k : ℕ) (ws : List ℕ) → length (wordsBytes (take k ws)) ≤ 4 * k
+unfolding wordsBytes
+registers-short zero ws = omega arith
+registers-short (suc k) [] = omega arith
+registers-short (suc k) (w ∷ ws) = omega (arith, registers-short k ws)
+
+-- a byte of the record that is not among the fields that units change
+abbrev pub BesideCpu : ℕ → Type 0
+BesideCpu i = (i < pswAt) ⊎ ((timerAt + 8 ≤ i) × (i < controlAt)) ⊎ (requestAt ≤ i)
+
 -- the fields that units change leave every other byte alone
-pub byte-of-withCpu : (c : Cpu) (r : List ℕ) (i : ℕ) → (i < pswAt) ⊎ ((timerAt + 8 ≤ i) × (i < controlAt)) → byteAt (withCpu c r) i ≡ byteAt r i
+pub byte-of-withCpu : (c : Cpu) (r : List ℕ) (i : ℕ) → BesideCpu i → byteAt (withCpu c r) i ≡ byteAt r i
 unfolding withCpu
 byte-of-withCpu c r i h =
-    getD-sets-beside withControls generalAt (wordsBytes (c .general .words)) i 0 (inl (⊎-elim (λ b. omega arith) (λ b. omega arith) h))
-    ∙ getD-sets-beside withTimer controlAt (wordsBytes (c .control .words)) i 0 (inl (⊎-elim (λ b. omega arith) (λ b. omega arith) h))
-    ∙ getD-sets-beside withPsw timerAt (doubleBytes (c .timer)) i 0 (⊎-elim (λ b. inl (omega arith)) (λ b. inr (b .0)) h)
-    ∙ getD-sets-beside r pswAt (pswBytes (c .psw)) i 0 (⊎-elim (λ b. inl b) (λ b. inr (omega arith)) h)
+    getD-sets-beside withControls generalAt (registerBytes (c .general .words)) i 0
+    (beside (λ b. inl (omega arith)) (λ b. inl (omega arith)) λ b. inr (omega (arith, registers-short 16 (c .general .words))))
+    ∙ getD-sets-beside withTimer controlAt (registerBytes (c .control .words)) i 0
+    (beside (λ b. inl (omega arith)) (λ b. inl (omega arith)) λ b. inr (omega (arith, registers-short 16 (c .control .words))))
+    ∙ getD-sets-beside withPsw timerAt (doubleBytes (c .timer)) i 0
+    (beside (λ b. inl (omega arith)) (λ b. inr (b .0)) λ b. inr (omega arith))
+    ∙ getD-sets-beside r pswAt (pswBytes (c .psw)) i 0 (beside (λ b. inl b) (λ b. inr (omega arith)) λ b. inr (omega arith))
   where
+    beside : {A : Type 0} → (i < pswAt → A) → ((timerAt + 8 ≤ i) × (i < controlAt) → A) → (requestAt ≤ i → A) → A
+    beside low middle high = ⊎-elim low (⊎-elim middle high) h
+
     withPsw : List ℕ
     withPsw = sets r pswAt (pswBytes (c .psw))
 
@@ -158,7 +180,7 @@ byte-of-withCpu c r i h =
     withTimer = sets withPsw timerAt (doubleBytes (c .timer))
 
     withControls : List ℕ
-    withControls = sets withTimer controlAt (wordsBytes (c .control .words))
+    withControls = sets withTimer controlAt (registerBytes (c .control .words))
 
 pub byte-of-withResults : (vs r : List ℕ) (i : ℕ) → length vs ≡ 14 → (i < resultsAt) ⊎ (resultsAt + 14 ≤ i) → byteAt (withResults vs r) i ≡ byteAt r i
 unfolding withResults
@@ -169,6 +191,7 @@ pub guest-of-bytes : (r t : List ℕ) → SameBytes r t 0 pswAt → SameBytes r 
 unfolding guestOf
 guest-of-bytes r t low high =
     λ j. record {
+      version = byte 2 (omega arith) j;
       interventions = byte 3 (omega arith) j;
       mode = byte 4 (omega arith) j;
       interceptions = byte 5 (omega arith) j;
@@ -192,7 +215,8 @@ guest-of-bytes r t low high =
 
 pub guest-of-withCpu : (c : Cpu) (r : List ℕ) → guestOf (withCpu c r) ≡ guestOf r
 guest-of-withCpu c r =
-    guest-of-bytes (withCpu c r) r (λ i l h. byte-of-withCpu c r i (inl h)) (λ i l h. byte-of-withCpu c r i (inr (omega arith)))
+    guest-of-bytes (withCpu c r) r (λ i l h. byte-of-withCpu c r i (inl h))
+    (λ i l h. byte-of-withCpu c r i (inr (inl (omega arith))))
 
 pub guest-of-withResults : (vs r : List ℕ) → guestOf (withResults vs r) ≡ guestOf r
 unfolding withResults
@@ -233,10 +257,10 @@ withResults-withCpu vs c r e =
     timer = doubleBytes (c .timer)
 
     controls : List ℕ
-    controls = wordsBytes (c .control .words)
+    controls = registerBytes (c .control .words)
 
     generals : List ℕ
-    generals = wordsBytes (c .general .words)
+    generals = registerBytes (c .general .words)
 
     timed : List ℕ
     timed = sets (sets r pswAt psw) timerAt timer
@@ -245,3 +269,48 @@ withResults-withCpu vs c r e =
 pub withResults-withResults : (vs ws r : List ℕ) → length vs ≡ length ws → withResults ws (withResults vs r) ≡ withResults ws r
 unfolding withResults
 withResults-withResults vs ws r e = sets-sets r resultsAt vs ws e
+
+-- the interval timer's fields
+
+pub length-withRequest : (request : ℕ) (r : List ℕ) → length (withRequest request r) ≡ length r
+unfolding withRequest
+length-withRequest request r = length-set r requestAt request
+
+pub length-withInterval : (request residue : ℕ) (r : List ℕ) → length (withInterval request residue r) ≡ length r
+unfolding withInterval
+length-withInterval request residue r = length-sets (withRequest request r) residueAt (wordBytes residue) ∙ length-withRequest request r
+
+pub byte-of-withRequest : (request : ℕ) (r : List ℕ) (i : ℕ) → (i < requestAt) ⊎ (requestAt < i)
+    → byteAt (withRequest request r) i ≡ byteAt r i
+unfolding withRequest
+byte-of-withRequest request r i h = getD-set-other r requestAt i request 0 (⊎-elim (λ b. omega arith) (λ b. omega arith) h)
+
+pub byte-of-withInterval : (request residue : ℕ) (r : List ℕ) (i : ℕ) → (i < requestAt) ⊎ ((requestAt < i) × (i < residueAt))
+    → byteAt (withInterval request residue r) i ≡ byteAt r i
+unfolding withInterval
+byte-of-withInterval request residue r i h =
+    getD-sets-beside (withRequest request r) residueAt (wordBytes residue) i 0 (inl (⊎-elim (λ b. omega arith) (λ b. omega arith) h))
+    ∙ byte-of-withRequest request r i (⊎-elim (λ b. inl b) (λ b. inr (b .0)) h)
+
+pub guest-of-withRequest : (request : ℕ) (r : List ℕ) → guestOf (withRequest request r) ≡ guestOf r
+guest-of-withRequest request r =
+    guest-of-bytes (withRequest request r) r (λ i l h. byte-of-withRequest request r i (inl (omega arith)))
+    (λ i l h. byte-of-withRequest request r i (inl (omega arith)))
+
+pub guest-of-withInterval : (request residue : ℕ) (r : List ℕ) → guestOf (withInterval request residue r) ≡ guestOf r
+guest-of-withInterval request residue r =
+    guest-of-bytes (withInterval request residue r) r (λ i l h. byte-of-withInterval request residue r i (inl (omega arith)))
+    (λ i l h. byte-of-withInterval request residue r i (inl (omega arith)))
+
+-- results and the interval timer's fields are put into the record in either order
+pub withResults-withRequest : (vs : List ℕ) (request : ℕ) (r : List ℕ) → length vs ≡ 14
+    → withResults vs (withRequest request r) ≡ withRequest request (withResults vs r)
+unfolding withResults withRequest
+withResults-withRequest vs request r e = sym (set-sets r requestAt request resultsAt vs (inr (omega arith)))
+
+pub withResults-withInterval : (vs : List ℕ) (request residue : ℕ) (r : List ℕ) → length vs ≡ 14
+    → withResults vs (withInterval request residue r) ≡ withInterval request residue (withResults vs r)
+unfolding withResults withInterval withRequest
+withResults-withInterval vs request residue r e =
+    sets-comm (set r requestAt request) residueAt (wordBytes residue) resultsAt vs (inr (omega arith))
+    ∙ ap (λ (t : List ℕ). sets t residueAt (wordBytes residue)) (sym (set-sets r requestAt request resultsAt vs (inr (omega arith))))

@@ -8,20 +8,26 @@ use mathlib.Core.Bool.{Bool, true, false}
 use mathlib.Core.List.{List, [], _∷_, _++_}
 use mathlib.Core.Logic.{inl, inr}
 use lib.Dec.{eqb}
-use lib.ListN.{length, getD, set}
-use lib.Seq.{sets, length-sets, set-comm, set-set}
+use lib.ListN.{length, getD, set, take, length-take}
+use lib.Seq.{sets, length-sets, take-all, set-comm, set-set}
 use borrow.Author.Tests.{eqb-true, eqb-false}
 use Rattle.machine.specs.declared.Cpu.{Cpu}
 use Rattle.machine.specs.Words.{byteAt, wordAt, doubleAt, wordsAt, wordBytes, doubleBytes, wordsBytes}
-use Rattle.machine.specs.Record.{pswAt, timerAt, controlAt, generalAt, pswBytes, pswOf, cpuOf, withCpu, Sixteen, Bounded}
-use Rattle.machine.proofs.Laws.{getD-sets-beside, set-sets, sets-comm, sets-sets, timer-of-withCpu}
-use Rattle.machine.proofs.Words.{length-wordsBytes, wordBytes-mod, word-small, words-of-bytes, words-of-sets, sets-words-same}
+use Rattle.machine.specs.Record.{recordLength, pswAt, timerAt, controlAt, generalAt, requestAt, residueAt, system370Mode, isSystem370, pswBytes, registerBytes, pswOf, cpuOf, withCpu, withRequest, withInterval, Sixteen, Bounded}
+use Rattle.machine.proofs.Laws.{getD-sets-beside, set-sets, sets-comm, sets-sets, registers-short, timer-of-withCpu, byte-of-withCpu}
+use Rattle.machine.proofs.Words.{length-wordsAt, length-wordsBytes, wordBytes-mod, word-small, words-of-bytes, words-of-sets, sets-words-same}
 
-pub cpu-of-withCpu : (c : Cpu) (r : List ℕ) → length r ≡ 200 → Bounded c → cpuOf (withCpu c r) ≡ c
+-- the bytes of sixteen words are those of the words
+registers-all : (ws : List ℕ) → length ws ≡ 16 → registerBytes ws ≡ wordsBytes ws
+registers-all ws sixteen = ap wordsBytes (take-all 16 ws (omega arith))
+
+-- the PSW has the architecture of the record
+pub cpu-of-withCpu : (c : Cpu) (r : List ℕ) → recordLength ≤ length r → Bounded c → c .psw .system370 ≡ isSystem370 r
+    → cpuOf (withCpu c r) ≡ c
 unfolding cpuOf pswOf withCpu wordsAt wordsBytes
-cpu-of-withCpu c r long bounded =
+cpu-of-withCpu c r long bounded architecture =
     λ i. record {
-      psw = record { left = getD (psw i) 0 0; right = getD (psw i) 1 0 };
+      psw = record { left = getD (psw i) 0 0; right = getD (psw i) 1 0; system370 = system370 i };
       timer = timer i;
       control = record { words = control i };
       general = record { words = general i };
@@ -34,16 +40,19 @@ cpu-of-withCpu c r long bounded =
     withTimer = sets withPsw timerAt (doubleBytes (c .timer))
 
     withControls : List ℕ
-    withControls = sets withTimer controlAt (wordsBytes (c .control .words))
+    withControls = sets withTimer controlAt (registerBytes (c .control .words))
 
-    length-withTimer : length withTimer ≡ 200
-    length-withTimer = length-sets withPsw timerAt (doubleBytes (c .timer)) ∙ length-sets r pswAt (pswBytes (c .psw)) ∙ long
+    length-withTimer : length withTimer ≡ length r
+    length-withTimer = length-sets withPsw timerAt (doubleBytes (c .timer)) ∙ length-sets r pswAt (pswBytes (c .psw))
 
-    length-withControls : length withControls ≡ 200
-    length-withControls = length-sets withTimer controlAt (wordsBytes (c .control .words)) ∙ length-withTimer
+    length-withControls : length withControls ≡ length r
+    length-withControls = length-sets withTimer controlAt (registerBytes (c .control .words)) ∙ length-withTimer
+
+    system370 : isSystem370 (withCpu c r) ≡ c .psw .system370
+    system370 = ap system370Mode (byte-of-withCpu c r 4 (inl (omega arith))) ∙ sym architecture
 
     below-general : (i : ℕ) → i < generalAt → byteAt (withCpu c r) i ≡ byteAt withControls i
-    below-general i h = getD-sets-beside withControls generalAt (wordsBytes (c .general .words)) i 0 (inl h)
+    below-general i h = getD-sets-beside withControls generalAt (registerBytes (c .general .words)) i 0 (inl h)
 
     small : (i : ℕ) → getD (c .psw .left ∷ c .psw .right ∷ []) i 0 < 2 ^ 32
     small zero = bounded .left
@@ -55,7 +64,7 @@ cpu-of-withCpu c r long bounded =
         words-of-bytes (withCpu c r) withPsw pswAt 2
         (λ i l h.
         below-general i (omega arith)
-        ∙ getD-sets-beside withTimer controlAt (wordsBytes (c .control .words)) i 0 (inl (omega arith))
+        ∙ getD-sets-beside withTimer controlAt (registerBytes (c .control .words)) i 0 (inl (omega arith))
         ∙ getD-sets-beside withPsw timerAt (doubleBytes (c .timer)) i 0 (inl (omega arith)))
         ∙ words-of-sets r pswAt (c .psw .left ∷ c .psw .right ∷ []) small (omega arith)
 
@@ -64,9 +73,11 @@ cpu-of-withCpu c r long bounded =
         let fits : c .timer % 2 ^ 64 ≡ c .timer = omega (arith, bounded .timer) in
         timer-of-withCpu c r (omega arith) ∙ fits
 
-    registers : (l : List ℕ) (a : ℕ) (ws : List ℕ) → Sixteen ws → a + 64 ≤ length l → wordsAt (sets l a (wordsBytes ws)) a 16 ≡ ws
+    registers : (l : List ℕ) (a : ℕ) (ws : List ℕ) → Sixteen ws → a + 64 ≤ length l → wordsAt (sets l a (registerBytes ws)) a 16 ≡ ws
     registers l a ws sixteen fits =
-        ap (λ (n : ℕ). wordsAt (sets l a (wordsBytes ws)) a n) (sym (sixteen .long)) ∙ words-of-sets l a ws (sixteen .small) (omega (arith, sixteen .long))
+        ap (λ (bytes : List ℕ). wordsAt (sets l a bytes) a 16) (registers-all ws (sixteen .long))
+        ∙ ap (λ (n : ℕ). wordsAt (sets l a (wordsBytes ws)) a n) (sym (sixteen .long))
+        ∙ words-of-sets l a ws (sixteen .small) (omega (arith, sixteen .long))
 
     control : wordsAt (withCpu c r) controlAt 16 ≡ c .control .words
     control =
@@ -124,16 +135,17 @@ pub withCpu-withCpu : (c d : Cpu) (r : List ℕ) → length (c .control .words) 
     → length (c .general .words) ≡ length (d .general .words) → withCpu d (withCpu c r) ≡ withCpu d r
 unfolding withCpu
 withCpu-withCpu c d r controls generals =
-    fields-fields r (pswBytes (c .psw)) (doubleBytes (c .timer)) (wordsBytes (c .control .words)) (wordsBytes (c .general .words)) (pswBytes (d .psw))
-    (doubleBytes (d .timer)) (wordsBytes (d .control .words)) (wordsBytes (d .general .words)) refl refl refl refl
+    fields-fields r (pswBytes (c .psw)) (doubleBytes (c .timer)) (registerBytes (c .control .words)) (registerBytes (c .general .words))
+    (pswBytes (d .psw))
+    (doubleBytes (d .timer)) (registerBytes (d .control .words)) (registerBytes (d .general .words)) refl refl refl refl
     (as-long (c .control .words) (d .control .words) controls) (as-long (c .general .words) (d .general .words) generals)
   where
-    as-long : (us vs : List ℕ) → length us ≡ length vs → length (wordsBytes us) ≡ length (wordsBytes vs)
-    as-long us vs e = omega (arith, length-wordsBytes us, length-wordsBytes vs)
+    as-long : (us vs : List ℕ) → length us ≡ length vs → length (registerBytes us) ≡ length (registerBytes vs)
+    as-long us vs e = rw (length-wordsBytes, length-wordsBytes (take 16 vs), length-take, length-take 16 vs, e)
 
 -- a record of bytes that gets its own fields back stays as it is
 module _ (r : List ℕ) (small : (i : ℕ) → byteAt r i < 256) where
-  psw-same : sets r pswAt (pswBytes (pswOf r pswAt)) ≡ r
+  psw-same : sets r pswAt (pswBytes (pswOf (isSystem370 r) r pswAt)) ≡ r
   unfolding pswOf wordsAt wordsBytes
   psw-same = sets-words-same r small pswAt 2
 
@@ -147,4 +159,50 @@ module _ (r : List ℕ) (small : (i : ℕ) → byteAt r i < 256) where
 
   pub withCpu-cpuOf : withCpu (cpuOf r) r ≡ r
   unfolding cpuOf withCpu
-  withCpu-cpuOf = rw (psw-same, timer-same, sets-words-same r small controlAt 16, sets-words-same r small generalAt 16)
+  withCpu-cpuOf =
+      rw (
+        psw-same,
+        timer-same,
+        registers-all (wordsAt r controlAt 16) (length-wordsAt r controlAt 16),
+        sets-words-same r small controlAt 16,
+        registers-all (wordsAt r generalAt 16) (length-wordsAt r generalAt 16),
+        sets-words-same r small generalAt 16,
+      )
+
+-- the interval timer's fields, beside those of the CPU, are put into the record in either order
+pub withRequest-withCpu : (request : ℕ) (c : Cpu) (r : List ℕ) → withRequest request (withCpu c r) ≡ withCpu c (withRequest request r)
+unfolding withRequest withCpu
+withRequest-withCpu request c r =
+    rw (
+      set-sets _ requestAt request generalAt (registerBytes (c .general .words))
+          (inr (omega (arith, registers-short 16 (c .general .words)))),
+      set-sets _ requestAt request controlAt (registerBytes (c .control .words))
+          (inr (omega (arith, registers-short 16 (c .control .words)))),
+      set-sets _ requestAt request timerAt (doubleBytes (c .timer)) (inr (omega arith)),
+      set-sets r requestAt request pswAt (pswBytes (c .psw)) (inr (omega arith)),
+    )
+
+pub withInterval-withCpu : (request residue : ℕ) (c : Cpu) (r : List ℕ)
+    → withInterval request residue (withCpu c r) ≡ withCpu c (withInterval request residue r)
+unfolding withInterval withCpu
+withInterval-withCpu request residue c r =
+    ap (λ (t : List ℕ). sets t residueAt (wordBytes residue)) (withRequest-withCpu request c r)
+    ∙ rw (
+      sets-comm _ generalAt (registerBytes (c .general .words)) residueAt (wordBytes residue)
+          (inl (omega (arith, registers-short 16 (c .general .words)))),
+      sets-comm _ controlAt (registerBytes (c .control .words)) residueAt (wordBytes residue)
+          (inl (omega (arith, registers-short 16 (c .control .words)))),
+      sets-comm _ timerAt (doubleBytes (c .timer)) residueAt (wordBytes residue) (inl (omega arith)),
+      sets-comm (withRequest request r) pswAt (pswBytes (c .psw)) residueAt (wordBytes residue) (inl (omega arith)),
+    )
+
+-- the later of them count
+pub withInterval-withInterval : (request residue request′ residue′ : ℕ) (r : List ℕ)
+    → withInterval request′ residue′ (withInterval request residue r) ≡ withInterval request′ residue′ r
+unfolding withInterval withRequest
+withInterval-withInterval request residue request′ residue′ r =
+    rw (
+      set-sets (set r requestAt request) requestAt request′ residueAt (wordBytes residue) (inl (omega arith)),
+      set-set r requestAt request request′,
+    )
+    (sets-sets (set r requestAt request′) residueAt (wordBytes residue) (wordBytes residue′) refl)

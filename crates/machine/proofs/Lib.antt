@@ -2,9 +2,11 @@
 pub mod Tests
 pub mod Laws
 pub mod Verdicts
+pub mod Ticks
 pub mod Runs
 pub mod Entry
 pub mod Examples
+pub mod System370
 pub mod Kept
 pub mod Accepted
 pub mod Resumption
@@ -16,7 +18,10 @@ pub mod Backing
 pub mod Effects
 pub mod Twins
 pub mod Isolation
+pub mod OneFrame
 pub mod IsolationIsNotEmpty
+pub mod IntervalTimer
+pub mod TimedRuns
 pub mod PageBytes
 pub mod Pages
 pub mod Words

@@ -3,69 +3,102 @@
 use Prim.Native.Nat.{ℕ, zero, suc, _+_, _*_, _%_, _^_, _≤_, _<_}
 use native.Mathlib.Omega.{arith}
 use mathlib.Core.Path.{_≡_, refl, ap, sym, _∙_}
+use borrow.Author.Tests.{lt-leb}
 use mathlib.Core.Bool.{true}
 use mathlib.Core.List.{List}
 use mathlib.Core.Logic.{inl, inr}
 use Rattle.machine.specs.declared.Answer.the-variants.{Ended}
+use Rattle.machine.specs.declared.Cpu.{Cpu}
 use Rattle.machine.specs.declared.End.{End}
 use Rattle.machine.specs.declared.End.the-variants.{Intercepted, HostFault, BudgetUsed}
 use Rattle.machine.specs.declared.Failure.{Failure}
 use Rattle.machine.specs.declared.Numbers.{Numbers}
 use Rattle.machine.specs.declared.Verdict.the-variants.{Accepted}
-use Rattle.machine.specs.Record.{guestOf, withCpu, withResults}
-use Rattle.machine.specs.Refusals.{mostUnits, runVerdict}
+use Rattle.machine.specs.Record.{guestOf, withCpu, withResults, residueOf, withRequest, withInterval}
+use Rattle.machine.specs.Interval.{period}
+use Rattle.machine.specs.Refusals.{mostUnits, mostTime, runVerdict}
 use Rattle.machine.specs.Entry.{entryGood}
-use Rattle.machine.specs.Time.{clockAfter, charged}
+use Rattle.machine.specs.Time.{clockAfter}
 use Rattle.machine.specs.Outcomes.{Outcome, completed, intercepted, faulted}
-use Rattle.machine.specs.Run.{Machine, Ended as Run, hostOf, unitFrom, behindOf, afterUnit, afterInterception, stepOf, step, counted, onward, run}
+use Rattle.machine.specs.Run.{Machine, Ended as Run, hostOf, unitFrom, behindOf, afterUnit, withTick, withWord, wordAccesses, wordIn, residueFrom, risenTo, fallenTo, ticked, Step, goes, ends, stepOf, step, counted, onward, run}
 use Rattle.machine.specs.Operations.{Result, resultOf, machineOf, runAs, runOf}
 use Rattle.machine.specs.Answers.{endResults}
 use Rattle.machine.specs.Theorems.{withBudget, resumedWith, resumedFrom, Resumption, HostFaultUndoesItsUnit}
-use Rattle.machine.proofs.Laws.{guest-of-bytes, length-endResults, withResults-withCpu, withResults-withResults}
-use Rattle.machine.proofs.Verdicts.{accepted-budget, verdict-of-same, verdict-of-budget}
-use Rattle.machine.proofs.Runs.{run-keeps, units-within, continued, run-add, runOf-cases}
-use Rattle.machine.proofs.Kept.{lengths-kept, bytes-kept}
+use Rattle.machine.proofs.Laws.{guest-of-bytes, length-endResults, withResults-withCpu, withResults-withResults, withResults-withRequest, withResults-withInterval}
+use Rattle.machine.proofs.Verdicts.{accepted-budget, accepted-time, accepted-residue, SameInterval, verdict-of-same, verdict-of-budget}
+use Rattle.machine.proofs.Ticks.{update-keeps}
+use Rattle.machine.proofs.Runs.{exit-keeps, step-cases, run-keeps, units-within, continued, run-add, runOf-cases}
+use Rattle.machine.proofs.Kept.{lengths-kept, bytes-kept, residue-in-range}
 
 -- a run goes by designation and time alone, beside its machine and its budget
 abbrev renumbered : Numbers → ℕ → ℕ → Numbers
 renumbered n clock budget = record { designation = n .designation; clock = clock; time = n .time; budget = budget }
 
-run-renumbered : (k : ℕ) (n : Numbers) (clock budget : ℕ) (m : Machine) → run k (renumbered n clock budget) m ≡ run k n m
-unfolding run step stepOf unitFrom hostOf behindOf afterUnit onward
-run-renumbered zero n clock budget m = refl
-run-renumbered (suc k) n clock budget m = by-outcome (λ m′. run-renumbered k n clock budget m′) (unitFrom n m)
+step-renumbered : (n : Numbers) (clock budget : ℕ) (m : Machine) → step (renumbered n clock budget) m ≡ step n m
+unfolding step stepOf unitFrom hostOf behindOf afterUnit ticked wordAccesses wordIn residueFrom risenTo fallenTo
+step-renumbered n clock budget m = by-outcome (unitFrom n m)
   where
-    by-outcome : ((m′ : Machine) → run k (renumbered n clock budget) m′ ≡ run k n m′) → (o : Outcome)
-        → onward (run k (renumbered n clock budget)) (stepOf (renumbered n clock budget) m o) ≡ onward (run k n) (stepOf n m o)
-    by-outcome later (completed c e) = ap counted (later (afterUnit n m c e))
-    by-outcome later (intercepted r c) = refl
-    by-outcome later (faulted f) = refl
+    by-outcome : (o : Outcome) → stepOf (renumbered n clock budget) m o ≡ stepOf n m o
+    by-outcome (completed c e) = refl
+    by-outcome (intercepted r c) = refl
+    by-outcome (faulted f) = refl
+
+run-renumbered : (k : ℕ) (n : Numbers) (clock budget : ℕ) (m : Machine) → run k (renumbered n clock budget) m ≡ run k n m
+unfolding run onward
+run-renumbered zero n clock budget m = refl
+run-renumbered (suc k) n clock budget m =
+    rw (step-renumbered n clock budget m) (by-step (λ next. run-renumbered k n clock budget next) (step n m))
+  where
+    by-step : ((next : Machine) → run k (renumbered n clock budget) next ≡ run k n next) → (s : Step)
+        → onward (run k (renumbered n clock budget)) s ≡ onward (run k n) s
+    by-step later (goes next) = ap counted (later next)
+    by-step later (ends e next) = refl
+
+-- a completed unit advances the clock; no step ends a run as budget used
+abbrev Clocked : Numbers → Machine → Step → Type 0
+Clocked n m (goes next) = next .clock ≡ (m .clock + n .time) % 2 ^ 64
+Clocked n m (ends e next) = e ≡ BudgetUsed → ⊥
+
+step-clocked : (n : Numbers) (m : Machine) → Clocked n m (step n m)
+unfolding afterUnit clockAfter withTick withWord
+step-clocked n m =
+    step-cases n m (Clocked n m) (λ c e is next u. update-keeps n m _ (λ k. Clocked n m (goes k)) (λ q r k h. h) (λ at w k h. h) refl u)
+    (λ r c is e. let z : _≡_ {A = ℕ} 0 1 = cc in omega arith) (λ f is e. let z : _≡_ {A = ℕ} 0 1 = cc in omega arith)
+    (λ f is e. let z : _≡_ {A = ℕ} 0 1 = cc in omega arith)
 
 -- a run that used its budget completed all its units, and the clock advanced by as many times
 pub budget-used : (a : ℕ) (n : Numbers) (m : Machine) → m .clock < 2 ^ 64 → (run a n m) .end ≡ BudgetUsed
     → (run a n m) .machine .clock ≡ (m .clock + a * n .time) % 2 ^ 64
-unfolding run step stepOf onward counted afterUnit clockAfter
+unfolding run onward counted
 budget-used zero n m small e = omega arith
-budget-used (suc a) n m small e = by-outcome (λ m′ s e′. budget-used a n m′ s e′) (unitFrom n m) e
+budget-used (suc a) n m small e = by-step (λ next s e′. budget-used a n next s e′) (step n m) (step-clocked n m) e
   where
-    by-outcome : ((m′ : Machine) → m′ .clock < 2 ^ 64 → (run a n m′) .end ≡ BudgetUsed → (run a n m′) .machine .clock ≡ (m′ .clock + a * n .time) % 2 ^ 64)
-        → (o : Outcome) → (onward (run a n) (stepOf n m o)) .end ≡ BudgetUsed
-        → (onward (run a n) (stepOf n m o)) .machine .clock ≡ (m .clock + suc a * n .time) % 2 ^ 64
-    by-outcome later (completed c f) e = later (afterUnit n m c f) (omega arith) e ∙ omega arith
-    by-outcome later (intercepted r c) e = cc
-    by-outcome later (faulted f) e = cc
+    by-step : ((next : Machine) → next .clock < 2 ^ 64 → (run a n next) .end ≡ BudgetUsed
+        → (run a n next) .machine .clock ≡ (next .clock + a * n .time) % 2 ^ 64)
+        → (s : Step) → Clocked n m s → (onward (run a n) s) .end ≡ BudgetUsed
+        → (onward (run a n) s) .machine .clock ≡ (m .clock + suc a * n .time) % 2 ^ 64
+    by-step later (goes next) clocked e = later next (omega arith) e ∙ omega arith
+    by-step later (ends end next) other e = absurd (other e)
 
 -- bytes 52-65 are zero, as a run that is not refused clears them
 abbrev Cleared : Machine → Type 0
 Cleared m = withResults (endResults BudgetUsed) (m .description) ≡ m .description
 
 run-cleared : (a : ℕ) (n : Numbers) (m : Machine) → Cleared m → Cleared ((run a n m) .machine)
-unfolding afterUnit afterInterception
+unfolding afterUnit withTick withWord
 run-cleared a n m p =
     run-keeps n Cleared
-    (λ m′ c e q. withResults-withCpu _ _ _ (length-endResults BudgetUsed) ∙ ap (withCpu (charged c (n .time))) q)
-    (λ m′ c q. withResults-withCpu _ _ _ (length-endResults BudgetUsed) ∙ ap (withCpu c) q)
+    (λ m′ c e q. by-cpu _ _ q)
+    (λ request residue m′ q.
+    withResults-withInterval _ request residue _ (length-endResults BudgetUsed) ∙ ap (withInterval request residue) q)
+    (λ behind at w m′ q. q)
+    (exit-keeps (λ d. withResults (endResults BudgetUsed) d ≡ d) by-cpu
+    λ request r q. withResults-withRequest _ request r (length-endResults BudgetUsed) ∙ ap (withRequest request) q)
     a m p
+  where
+    by-cpu : (c : Cpu) (r : List ℕ) → withResults (endResults BudgetUsed) r ≡ r
+        → withResults (endResults BudgetUsed) (withCpu c r) ≡ withCpu c r
+    by-cpu c r q = withResults-withCpu _ c r (length-endResults BudgetUsed) ∙ ap (withCpu c) q
 
 start-cleared : (n : Numbers) (r storage keys : List ℕ) → Cleared (machineOf n r storage keys)
 unfolding machineOf
@@ -94,13 +127,25 @@ module _ (n : Numbers) (a b : ℕ) (r storage keys : List ℕ) (small : n .clock
   accepted-again =
       verdict-of-same (resumedWith n a b) (withBudget n a) _ r _ storage _ keys (lengths-kept .ofRecord (withBudget n a) r storage keys)
       (λ i l h. bytes-kept (withBudget n a) r storage keys i (inl (omega arith)))
-      (λ i l h. bytes-kept (withBudget n a) r storage keys i (inr (inr (omega arith))))
+      (λ i l h. bytes-kept (withBudget n a) r storage keys i (inr (inr (inl (omega arith)))))
+      same-interval
       (lengths-kept .ofStorage (withBudget n a) r storage keys)
       (lengths-kept .ofKeys (withBudget n a) r storage keys)
       refl
       (omega arith)
       (omega arith)
       ∙ accepted
+    where
+      same-interval : SameInterval (first .description) r
+      same-interval = record {
+        reserved = λ i l h. bytes-kept (withBudget n a) r storage keys i (inr (inr (inr (inl (omega arith)))));
+        residues =
+            λ long.
+            let before : residueOf r < period = accepted-residue (withBudget n a) r storage keys accepted long in
+            let short : n .time ≤ mostTime = accepted-time (withBudget n a) r storage keys accepted in
+            let after : residueOf (first .description) < period = residue-in-range (withBudget n a) short r storage keys long before in
+            lt-leb period (residueOf (first .description)) after ∙ sym (lt-leb period (residueOf r) before);
+      }
 
   good-again : entryGood (guestOf (first .description)) ≡ true
   unfolding first
@@ -172,18 +217,17 @@ resumption n a b r storage keys small limit =
 -- the run of just the units that were completed before a host fault uses its budget, and reaches the same machine
 before-fault : (b : ℕ) (n : Numbers) (m : Machine) (f : Failure) → (run b n m) .end ≡ HostFault f
     → run ((run b n m) .units) n m ≡ record { end = BudgetUsed; units = (run b n m) .units; machine = (run b n m) .machine }
-unfolding run step stepOf onward counted
+unfolding run onward counted
 before-fault zero n m f e = cc
-before-fault (suc b) n m f e = by-outcome (λ m′ e′. before-fault b n m′ f e′) (unitFrom n m) refl e
+before-fault (suc b) n m f e =
+    step-cases n m Cut (λ c x is next u same ended. rw same (ap counted (before-fault b n next f ended))) (λ r c is same ended. cc)
+    (λ f′ is same ended. refl)
+    (λ f′ is same ended. refl) refl e
   where
-    by-outcome : ((m′ : Machine) → (run b n m′) .end ≡ HostFault f
-        → run ((run b n m′) .units) n m′ ≡ record { end = BudgetUsed; units = (run b n m′) .units; machine = (run b n m′) .machine })
-        → (o : Outcome) → unitFrom n m ≡ o → (onward (run b n) (stepOf n m o)) .end ≡ HostFault f
-        → run ((onward (run b n) (stepOf n m o)) .units) n m
-        ≡ record { end = BudgetUsed; units = (onward (run b n) (stepOf n m o)) .units; machine = (onward (run b n) (stepOf n m o)) .machine }
-    by-outcome later (completed c x) is e = rw is (ap counted (later (afterUnit n m c x) e))
-    by-outcome later (intercepted r c) is e = cc
-    by-outcome later (faulted f) is e = refl
+    Cut : Step → Type 0
+    Cut s = step n m ≡ s → (onward (run b n) s) .end ≡ HostFault f
+        → run ((onward (run b n) s) .units) n m
+        ≡ record { end = BudgetUsed; units = (onward (run b n) s) .units; machine = (onward (run b n) s) .machine }
 
 pub host-fault-undoes-its-unit : HostFaultUndoesItsUnit
 unfolding resultOf endResults

@@ -11,19 +11,23 @@ use Rattle.machine.specs.declared.Answer.the-variants as answer
 use Rattle.machine.specs.declared.Cpu.{Cpu}
 use Rattle.machine.specs.declared.End.{End}
 use Rattle.machine.specs.declared.End.the-variants.{Intercepted, HostFault, BudgetUsed}
+use Rattle.machine.specs.declared.Failure.{Failure}
 use Rattle.machine.specs.declared.Numbers.{Numbers}
+use Rattle.machine.specs.declared.Reason.{Reason}
 use Rattle.machine.specs.declared.Reason.the-variants.{Validity}
 use Rattle.machine.specs.declared.Verdict.{Verdict}
 use Rattle.machine.specs.declared.Verdict.the-variants.{Accepted, Refused}
 use Rattle.machine.specs.declared.Walk.{Walk}
 use Rattle.machine.specs.declared.Walk.the-variants.{Page, Failed}
-use Rattle.machine.specs.Record.{guestOf}
+use Rattle.machine.specs.Record.{guestOf, withCpu, withRequest}
 use Rattle.machine.specs.Refusals.{runVerdict}
 use Rattle.machine.specs.Entry.{entryGood}
 use Rattle.machine.specs.Host.{Located, storeByte, stored, markKey, marked, referenced, changed, places}
+use Rattle.machine.specs.Addresses.{stopped}
 use Rattle.machine.specs.Outcomes.{Effects, Outcome, completed, intercepted, faulted}
-use Rattle.machine.specs.Run.{Machine, Ended, unitFrom, markedBy, afterUnit, afterInterception, stepOf, step, counted, onward, run}
+use Rattle.machine.specs.Run.{Machine, Ended, unitFrom, markedBy, afterUnit, afterInterception, answered, withTick, withWord, wordAccesses, Step, goes, ends, stepOf, step, counted, onward, run}
 use Rattle.machine.specs.Operations.{Result, resultOf, machineOf, runAs, runOf}
+use Rattle.machine.proofs.Ticks.{Update, ticked-cases, update-keeps, answered-keeps}
 
 -- lengths
 
@@ -51,32 +55,80 @@ pub markedBy-length : (behind : ℕ → Walk) (e : Effects) (k : List ℕ) → l
 unfolding markedBy
 markedBy-length behind e k = marked-length behind changed (places (e .stores)) _ ∙ marked-length behind referenced (e .fetched ++ places (e .stores)) k
 
--- a property of the machine that completed units and interceptions keep, a run keeps
+-- what new fields of the CPU and a new request byte keep of a record, an interception keeps
+pub exit-keeps : (P : List ℕ → Type 0) → ((c : Cpu) (r : List ℕ) → P r → P (withCpu c r))
+    → ((request : ℕ) (r : List ℕ) → P r → P (withRequest request r))
+    → (reason : Reason) (m : Machine) (c : Cpu) → P (m .description) → P ((answered reason (afterInterception m c)) .description)
+unfolding afterInterception
+exit-keeps P by-cpu by-request reason m c p = answered-keeps P by-request reason (afterInterception m c) (by-cpu _ _ p)
+
+-- a step, by cases: a completed unit with the interval timer's update, an interception, a host fault of the unit or of the update
+module _ (n : Numbers) (m : Machine) (P : Step → Type 0)
+    (goes-on : (c : Cpu) (e : Effects) → unitFrom n m ≡ completed c e → (next : Machine) → Update n m (afterUnit n m c e) next
+    → P (goes next))
+    (exits : (r : Reason) (c : Cpu) → unitFrom n m ≡ intercepted r c → P (ends (Intercepted r) (answered r (afterInterception m c))))
+    (faults : (f : Failure) → unitFrom n m ≡ faulted f → P (ends (HostFault f) m))
+    (word-faults : (f : Failure) → wordAccesses n m ≡ stopped f → P (ends (HostFault f) m)) where
+  by-outcome : (o : Outcome) → unitFrom n m ≡ o → P (stepOf n m o)
+  unfolding stepOf
+  by-outcome (completed c e) is = ticked-cases n m (afterUnit n m c e) P (goes-on c e is) (λ on full. word-faults)
+  by-outcome (intercepted r c) is = exits r c is
+  by-outcome (faulted f) is = faults f is
+
+  pub step-cases : P (step n m)
+  unfolding step
+  step-cases = by-outcome (unitFrom n m) refl
+
+-- how a step ends a run: never as budget used
+pub data Ends : Step → Type 0 where
+  goes-on : {m : Machine} → Ends (goes m)
+  exits : {r : Reason} {m : Machine} → Ends (ends (Intercepted r) m)
+  faults : {f : Failure} {m : Machine} → Ends (ends (HostFault f) m)
+
+pub step-ends : (n : Numbers) (m : Machine) → Ends (step n m)
+step-ends n m = step-cases n m Ends (λ c e is next u. goes-on) (λ r c is. exits) (λ f is. faults) (λ f is. faults)
+
+-- the machine that a step leaves
+abbrev pub left-by : Step → Machine
+left-by (goes m) = m
+left-by (ends e m) = m
+
+-- a property of the machine that every step keeps, a run keeps
+module _ (n : Numbers) (P : Machine → Type 0) (step-keeps : (m : Machine) → P m → P (left-by (step n m))) where
+  onward-keeps : (rest : Machine → Ended) → ((m : Machine) → P m → P ((rest m) .machine)) → (s : Step) → P (left-by s)
+      → P ((onward rest s) .machine)
+  unfolding onward counted
+  onward-keeps rest later (goes m) p = later m p
+  onward-keeps rest later (ends e m) p = p
+
+  pub run-keeps-steps : (b : ℕ) (m : Machine) → P m → P ((run b n m) .machine)
+  unfolding run
+  run-keeps-steps zero m p = p
+  run-keeps-steps (suc b) m p = onward-keeps (run b n) (λ k q. run-keeps-steps b k q) (step n m) (step-keeps m p)
+
+-- a property of the machine that completed units, interceptions, the interval timer's fields and its word keep, a run keeps
 module _ (n : Numbers) (P : Machine → Type 0) (unit-keeps : (m : Machine) (c : Cpu) (e : Effects) → P m → P (afterUnit n m c e))
-    (exit-keeps : (m : Machine) (c : Cpu) → P m → P (afterInterception m c)) where
-  onward-keeps : (rest : Machine → Ended) → ((m : Machine) → P m → P ((rest m) .machine)) → (m : Machine) → P m → (o : Outcome)
-      → P ((onward rest (stepOf n m o)) .machine)
-  unfolding onward stepOf counted
-  onward-keeps rest later m p (completed c e) = later _ (unit-keeps m c e p)
-  onward-keeps rest later m p (intercepted r c) = exit-keeps m c p
-  onward-keeps rest later m p (faulted f) = p
+    (tick-keeps : (request residue : ℕ) (m : Machine) → P m → P (withTick request residue m))
+    (word-keeps : (behind : ℕ → Walk) (at : List Located) (w : ℕ) (m : Machine) → P m → P (withWord behind at w m))
+    (by-exit : (r : Reason) (m : Machine) (c : Cpu) → P m → P (answered r (afterInterception m c))) where
+  pub step-keeps : (m : Machine) → P m → P (left-by (step n m))
+  step-keeps m p =
+      step-cases n m (λ s. P (left-by s)) (λ c e is next u. update-keeps n m _ P tick-keeps (word-keeps _) (unit-keeps m c e p) u)
+      (λ r c is. by-exit r m c p) (λ f is. p) (λ f is. p)
 
   pub run-keeps : (b : ℕ) (m : Machine) → P m → P ((run b n m) .machine)
-  unfolding run step
-  run-keeps zero m p = p
-  run-keeps (suc b) m p = onward-keeps (run b n) (λ m′ q. run-keeps b m′ q) m p (unitFrom n m)
+  run-keeps b m p = run-keeps-steps n P step-keeps b m p
 
 -- units completed
 
 pub units-within : (b : ℕ) (n : Numbers) (m : Machine) → (run b n m) .units ≤ b
-unfolding run step onward stepOf counted
+unfolding run onward counted
 units-within zero n m = omega arith
-units-within (suc b) n m = within (λ m′. units-within b n m′) (unitFrom n m)
+units-within (suc b) n m = within (λ k. units-within b n k) (step n m)
   where
-    within : ((m′ : Machine) → (run b n m′) .units ≤ b) → (o : Outcome) → (onward (run b n) (stepOf n m o)) .units ≤ suc b
-    within later (completed c e) = suc-le-suc (later (afterUnit n m c e))
-    within later (intercepted r c) = omega arith
-    within later (faulted f) = omega arith
+    within : ((k : Machine) → (run b n k) .units ≤ b) → (s : Step) → (onward (run b n) s) .units ≤ suc b
+    within later (goes k) = suc-le-suc (later k)
+    within later (ends e k) = omega arith
 
 -- a run goes on from where it used its budget
 
@@ -100,16 +152,15 @@ counted-continued b n m u (HostFault f) = refl
 counted-continued b n m u BudgetUsed = rw suc-add
 
 pub run-add : (a b : ℕ) (n : Numbers) (m : Machine) → run (a + b) n m ≡ continuing b n (run a n m)
-unfolding run step onward stepOf counted
+unfolding run onward counted
 run-add zero b n m = rw (zero-add b, zero-add ((run b n m) .units))
-run-add (suc a) b n m = rw suc-add (by-outcome (λ m′. run-add a b n m′) (unitFrom n m))
+run-add (suc a) b n m = rw suc-add (by-step (λ k. run-add a b n k) (step-ends n m))
   where
-    by-outcome : ((m′ : Machine) → run (a + b) n m′ ≡ continuing b n (run a n m′)) → (o : Outcome)
-        → onward (run (a + b) n) (stepOf n m o) ≡ continuing b n (onward (run a n) (stepOf n m o))
-    by-outcome later (completed c e) =
-        ap counted (later (afterUnit n m c e)) ∙ counted-continued b n _ _ ((run a n (afterUnit n m c e)) .end)
-    by-outcome later (intercepted r c) = refl
-    by-outcome later (faulted f) = refl
+    by-step : ((k : Machine) → run (a + b) n k ≡ continuing b n (run a n k)) → {s : Step} → Ends s
+        → onward (run (a + b) n) s ≡ continuing b n (onward (run a n) s)
+    by-step later (goes-on {m = k}) = ap counted (later k) ∙ counted-continued b n _ _ ((run a n k) .end)
+    by-step later exits = refl
+    by-step later faults = refl
 
 -- the run operation, by cases: refused, entry failing, running
 module _ (n : Numbers) (r storage keys : List ℕ) (P : Result → Type 0)

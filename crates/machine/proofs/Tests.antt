@@ -21,6 +21,11 @@ pub by-test : {A : Type 0} (P : A → Type 0) (b : Bool) {u v : A} → (b ≡ tr
 by-test P true p q = p refl
 by-test P false p q = q
 
+-- the same, where each arm is told
+pub by-either-test : {A : Type 0} (P : A → Type 0) (b : Bool) {u v : A} → (b ≡ true → P u) → (b ≡ false → P v) → P (cond b u v)
+by-either-test P true p q = p refl
+by-either-test P false p q = q refl
+
 -- what is known behind a match's arms for the keys below n
 abbrev pub NoneBelow : ℕ → ℕ → Type 0
 NoneBelow zero x = Unit {0}

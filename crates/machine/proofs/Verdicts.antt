@@ -2,19 +2,20 @@
 -- Assumes nothing.
 use Prim.Native.Nat.{ℕ, zero, suc, _+_, _≤_, _<_}
 use native.Mathlib.Omega.{arith}
-use mathlib.Core.Path.{_≡_, refl}
-use mathlib.Core.Bool.{Bool, true, false, not, _&&_, _||_}
+use mathlib.Core.Path.{_≡_, refl, sym}
+use mathlib.Core.Bool.{Bool, true, false, not, _&&_, _||_, false≢true}
 use mathlib.Core.List.{List}
 use mathlib.Core.Logic.{_⊎_, inl, inr, ⊎-elim}
-use lib.Dec.{eqb, lit<, lit≤}
+use lib.Dec.{eqb, leb, lit<, lit≤}
 use lib.ListN.{length}
-use borrow.Author.Tests.{eq-eqb, le-ltb, ltb-false, eqb-true, eqb-false, not-false}
+use borrow.Author.Tests.{eq-eqb, le-ltb, ltb-false, leb-false, eqb-true, eqb-false, not-false}
 use Rattle.machine.specs.declared.Numbers.{Numbers}
 use Rattle.machine.specs.declared.Verdict.{Verdict}
 use Rattle.machine.specs.declared.Verdict.the-variants.{Accepted}
 use Rattle.machine.specs.Words.{byteAt, halfAt, wordAt}
-use Rattle.machine.specs.Record.{recordLength}
-use Rattle.machine.specs.Refusals.{mostUnits, framesOf, wrongLength, wrongVersion, wrongStorage, wrongKeys, wrongBudget, wrongTime, used, reservedUsed, refuse, runVerdict}
+use Rattle.machine.specs.Record.{recordLength, longLength, GoodLength, versionFor, residueOf}
+use Rattle.machine.specs.Interval.{period}
+use Rattle.machine.specs.Refusals.{mostUnits, mostTime, framesOf, wrongLength, wrongVersion, wrongStorage, wrongKeys, wrongBudget, wrongTime, used, wrongInterval, reservedUsed, refuse, runVerdict}
 use Rattle.machine.specs.Theorems.{withBudget}
 use Rattle.machine.proofs.Laws.{SameBytes}
 
@@ -25,20 +26,22 @@ accepted-test number false later e = (refl, e)
 
 -- what the tests of lengths say where they fail
 
-pub length-of-right : (r : List ℕ) → wrongLength r ≡ false → length r ≡ recordLength
+pub length-of-right : (r : List ℕ) → wrongLength r ≡ false → GoodLength r
 unfolding wrongLength
-length-of-right r right = eqb-true (length r) recordLength (both (eqb (length r) recordLength) _ right)
+length-of-right r right = either (eqb (length r) recordLength) refl (eqb (length r) longLength) refl right
   where
-    both : (a b : Bool) → not (a && b) ≡ false → a ≡ true
-    both true b e = refl
-    both false b e = cc
+    either : (a : Bool) → eqb (length r) recordLength ≡ a → (b : Bool) → eqb (length r) longLength ≡ b
+        → not ((a && eqb (halfAt r 0) recordLength) || (b && eqb (halfAt r 0) longLength)) ≡ false → GoodLength r
+    either true e b f h = inl (eqb-true (length r) recordLength e)
+    either false e true f h = inr (eqb-true (length r) longLength f)
+    either false e false f h = absurd (false≢true (sym h))
 
 pub keys-of-right : (storage keys : List ℕ) → wrongKeys storage keys ≡ false → length keys ≡ framesOf storage
 unfolding wrongKeys
 keys-of-right storage keys right = eqb-true (length keys) (framesOf storage) (not-false _ right)
 
 module _ (n : Numbers) (r storage keys : List ℕ) (accepted : runVerdict n r storage keys ≡ Accepted) where
-  pub accepted-length : length r ≡ recordLength
+  pub accepted-length : GoodLength r
   unfolding runVerdict
   accepted-length = length-of-right r (accepted-test 1 (wrongLength r) _ accepted .0)
 
@@ -50,6 +53,38 @@ module _ (n : Numbers) (r storage keys : List ℕ) (accepted : runVerdict n r st
       let fourth = accepted-test 3 (wrongStorage storage) _ third .1 in
       let fifth = accepted-test 4 (wrongKeys storage keys) _ fourth .1 in
       ltb-false mostUnits (n .budget) (accepted-test 5 (wrongBudget n) _ fifth .0)
+
+  -- the tests behind that of the budget
+  later-tests : (wrongTime n ≡ false) × (reservedUsed r ≡ false)
+  unfolding runVerdict
+  later-tests =
+      let second = accepted-test 1 (wrongLength r) _ accepted .1 in
+      let third = accepted-test 2 (wrongVersion r) _ second .1 in
+      let fourth = accepted-test 3 (wrongStorage storage) _ third .1 in
+      let fifth = accepted-test 4 (wrongKeys storage keys) _ fourth .1 in
+      let sixth = accepted-test 5 (wrongBudget n) _ fifth .1 in
+      let seventh = accepted-test 6 (wrongTime n) _ sixth .1 in
+      (accepted-test 6 (wrongTime n) _ sixth .0, accepted-test 7 (reservedUsed r) _ seventh .0)
+
+  pub accepted-version : byteAt r 2 ≡ versionFor (length r)
+  unfolding runVerdict wrongVersion
+  accepted-version =
+      let second = accepted-test 1 (wrongLength r) _ accepted .1 in
+      eqb-true (byteAt r 2) (versionFor (length r)) (not-false _ (accepted-test 2 (wrongVersion r) _ second .0))
+
+  pub accepted-time : n .time ≤ mostTime
+  unfolding wrongTime
+  accepted-time = ltb-false mostTime (n .time) (later-tests .0)
+
+  pub accepted-residue : length r ≡ longLength → residueOf r < period
+  unfolding reservedUsed wrongInterval
+  accepted-residue long =
+      leb-false period (residueOf r)
+      (second (used r 201 3) _ (rw (eq-eqb (length r) longLength long) at (second (used r 66 6) _ (later-tests .1))))
+    where
+      second : (a b : Bool) → (a || b) ≡ false → b ≡ false
+      second true b e = absurd (false≢true (sym e))
+      second false b e = e
 
 -- bytes that are all zero, or not
 
@@ -79,9 +114,9 @@ used-or-zero r a (suc n) = by-byte (eqb (byteAt r a) 0) refl (used-or-zero r (a 
     by-byte true e (inl more) = inl more
     by-byte true e (inr none) = inr λ i. here-or-later (eqb-true (byteAt r a) 0 e) none i (eqb i a) refl
 
--- refusal 7 by a word and a halfword
-pub reserved-by-words : (r : List ℕ) → reservedUsed r ≡ not (eqb (wordAt r 66 + halfAt r 70) 0)
-unfolding reservedUsed used wordAt
+-- bytes 66-71 by a word and a halfword
+pub reserved-by-words : (r : List ℕ) → used r 66 6 ≡ not (eqb (wordAt r 66 + halfAt r 70) 0)
+unfolding used wordAt
 reserved-by-words r = by-sum (eqb (wordAt r 66 + halfAt r 70) 0) refl
   where
     by-sum : (b : Bool) → eqb (wordAt r 66 + halfAt r 70) 0 ≡ b → used r 66 6 ≡ not b
@@ -93,15 +128,32 @@ reserved-by-words r = by-sum (eqb (wordAt r 66 + halfAt r 70) 0) refl
         (λ none. absurd (eqb-false (wordAt r 66 + halfAt r 70) 0 e (omega (arith, none 66 (lit≤ tt) (lit< tt), none 67 (lit≤ tt) (lit< tt), none 68 (lit≤ tt) (lit< tt), none 69 (lit≤ tt) (lit< tt), none 70 (lit≤ tt) (lit< tt), none 71 (lit≤ tt) (lit< tt)))))
         (used-or-zero r 66 6)
 
--- the verdict goes by lengths, by the bytes of the record that no rule names, by the time, and by the budget's limit
+-- the interval timer's fields of two records are in range alike: bytes 201-203 are the same, and both residues are in range or neither is
+pub record SameInterval (r t : List ℕ) : Type 0 where
+  pub reserved : SameBytes r t 201 204
+  pub residues : length t ≡ longLength → leb period (residueOf r) ≡ leb period (residueOf t)
+
+interval-of-same : (r t : List ℕ) → length r ≡ length t → SameInterval r t → wrongInterval r ≡ wrongInterval t
+unfolding wrongInterval
+interval-of-same r t long same = rw (long, used-of-same r t 201 3 (same .reserved)) (by-length (eqb (length t) longLength) refl)
+  where
+    by-length : (b : Bool) → eqb (length t) longLength ≡ b
+        → (b && (used t 201 3 || leb period (residueOf r))) ≡ (b && (used t 201 3 || leb period (residueOf t)))
+    by-length true e = rw (same .residues (eqb-true (length t) longLength e))
+    by-length false e = refl
+
+-- the verdict goes by lengths, by the bytes of the record that no rule names, by the residue's range, by the time, and by the budget's
+-- limit
 pub verdict-of-same : (n k : Numbers) (r t s s′ x x′ : List ℕ) → length r ≡ length t → SameBytes r t 0 3 → SameBytes r t 66 72
+    → SameInterval r t
     → length s ≡ length s′ → length x ≡ length x′ → n .time ≡ k .time → n .budget ≤ mostUnits → k .budget ≤ mostUnits
     → runVerdict n r s x ≡ runVerdict k t s′ x′
 unfolding runVerdict wrongLength wrongVersion wrongStorage wrongKeys wrongBudget wrongTime reservedUsed
-verdict-of-same n k r t s s′ x x′ long low reserved whole eachKey time small small′ =
+verdict-of-same n k r t s s′ x x′ long low reserved interval whole eachKey time small small′ =
     rw (
       le-ltb mostUnits (n .budget) small,
       le-ltb mostUnits (k .budget) small′,
+      interval-of-same r t long interval,
       long,
       whole,
       eachKey,
@@ -116,4 +168,5 @@ verdict-of-same n k r t s s′ x x′ long low reserved whole eachKey time small
 pub verdict-of-budget : (n : Numbers) (a b : ℕ) (r storage keys : List ℕ) → a ≤ mostUnits → b ≤ mostUnits
     → runVerdict (withBudget n a) r storage keys ≡ runVerdict (withBudget n b) r storage keys
 verdict-of-budget n a b r storage keys small small′ =
-    verdict-of-same (withBudget n a) (withBudget n b) r r storage storage keys keys refl (λ i l h. refl) (λ i l h. refl) refl refl refl small small′
+    verdict-of-same (withBudget n a) (withBudget n b) r r storage storage keys keys refl (λ i l h. refl) (λ i l h. refl)
+    (record { reserved = λ i l h. refl; residues = λ long. refl }) refl refl refl small small′

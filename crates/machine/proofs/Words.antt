@@ -38,6 +38,11 @@ wordsAt-more s a n = rw add-one (go a n)
         let e : b + 4 * suc k ≡ b + 4 + 4 * k = omega arith in
         rw e (ap (λ (ws : List ℕ). wordAt s b ∷ ws) (go (b + 4) k))
 
+pub length-wordsAt : (s : List ℕ) (a n : ℕ) → length (wordsAt s a n) ≡ n
+unfolding wordsAt
+length-wordsAt s a zero = refl
+length-wordsAt s a (suc n) = ap suc (length-wordsAt s (a + 4) n)
+
 pub length-wordsBytes : (ws : List ℕ) → length (wordsBytes ws) ≡ 4 * length ws
 unfolding wordsBytes
 length-wordsBytes [] = refl
@@ -65,7 +70,7 @@ words-of-bytes s t a (suc n) same =
     ∷ words-of-bytes s t (a + 4) n (λ k l h. same k (omega arith) (omega arith)) i
 
 -- a word that a run of stores put there
-word-of-sets : (l : List ℕ) (at : ℕ) (vs : List ℕ) → 4 ≤ length vs → at + length vs ≤ length l → wordAt (sets l at vs) at ≡ wordAt vs 0
+pub word-of-sets : (l : List ℕ) (at : ℕ) (vs : List ℕ) → 4 ≤ length vs → at + length vs ≤ length l → wordAt (sets l at vs) at ≡ wordAt vs 0
 unfolding wordAt
 word-of-sets l at vs long fits =
     omega (
@@ -79,7 +84,7 @@ word-of-sets l at vs long fits =
     byte : (i k : ℕ) → i ≡ at + k → k < 4 → byteAt (sets l at vs) i ≡ byteAt vs k
     byte i k e h = rw e (getD-sets-inside l at vs k 0 (omega arith) fits)
 
-word-of-wordBytes : (x : ℕ) → wordAt (wordBytes x) 0 ≡ x % 2 ^ 32
+pub word-of-wordBytes : (x : ℕ) → wordAt (wordBytes x) 0 ≡ x % 2 ^ 32
 unfolding wordAt
 word-of-wordBytes x = rw (half-value (x / 65536), half-value x) (word-value x)
 

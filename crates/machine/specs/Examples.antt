@@ -1,25 +1,32 @@
--- Document 01, "Case file and worked examples": the starred examples, as one collection under a single statement.
-use Prim.Native.Nat.{ℕ, _-_, _*_, _^_}
+-- Document 01, "Case file and worked examples": the starred examples, as one collection under a single statement. Then those of
+-- request 1/12, as another.
+use Prim.Native.Nat.{ℕ, _-_, _*_, _/_, _^_, _≤_}
 use mathlib.Core.Path.{_≡_}
-use mathlib.Core.Bool.{true, false}
-use mathlib.Core.List.{List}
+use mathlib.Core.Bool.{Bool, true, false}
+use mathlib.Core.List.{List, [], _∷_}
 use lib.ListN.{length}
-use Rattle.machine.specs.declared.Class.the-variants.{Ar}
+use Rattle.machine.specs.declared.Class.the-variants.{Ar, Mandatory, Unassigned}
 use Rattle.machine.specs.declared.Cpu.{Cpu}
 use Rattle.machine.specs.declared.Guest.{Guest}
+use Rattle.machine.specs.declared.Psw.{Psw}
+use Rattle.machine.specs.declared.Reason.the-variants.{External, Validity}
 use Rattle.machine.specs.declared.Translated.the-variants.{Address, Failed}
 use Rattle.machine.specs.declared.Verdict.the-variants.{Accepted}
 use Rattle.machine.specs.Words.{bits, wordAt}
-use Rattle.machine.specs.Record.{guestOf, cpuOf}
+use Rattle.machine.specs.Record.{system370Mode, guestOf, cpuOf, pswBytes}
+use Rattle.machine.specs.Interval.{falls, residueAfter, wordAfter, requestAfter}
 use Rattle.machine.specs.Refusals.{translateVerdict}
-use Rattle.machine.specs.Entry.{modeInstalled}
-use Rattle.machine.specs.Psw.{datOn, accessKey, conditionCode, overflowEnabled, mode31, control, general}
+use Rattle.machine.specs.Entry.{modeInstalled, entryGood}
+use Rattle.machine.specs.Psw.{pswBit, basicControl, extendedControl, datOn, ioEnabled, externalEnabled, accessKey, conditionCode, overflowEnabled, mode31, notInstalled, malformed, control, general, withAddress, oldPsw}
 use Rattle.machine.specs.Time.{guestClock, comparatorDue, timerDue, charged}
 use Rattle.machine.specs.Failures.{segmentTranslation, pageTranslation, addressing, hostFault, exceptionOf}
 use Rattle.machine.specs.Host.{Host, Cell}
 use Rattle.machine.specs.Addresses.{prefixed, formatGood, access, denied}
-use Rattle.machine.specs.Outcomes.{Effects, completed, Progress}
+use Rattle.machine.specs.Opcodes.{opcodeOf}
+use Rattle.machine.specs.Outcomes.{Effects, completed, intercepted, Progress}
+use Rattle.machine.specs.Interruptions.{fieldsBeside}
 use Rattle.machine.specs.Execute.{r1, r2, execute}
+use Rattle.machine.specs.Units.{stopRequested, unit}
 use Rattle.machine.specs.Operations.{translate}
 
 -- the setup: any record, storage and keys with these words, numbers and bits
@@ -55,3 +62,35 @@ pub record StarredExamples : Type 0 where
   pub addOverflows : (x : Progress) → length (x .cpu .general .words) ≡ 16 → general (x .cpu) (r1 x) ≡ 0x7fffffff → general (x .cpu) (r2 x) ≡ 1
       → overflowEnabled (x .cpu) ≡ false
       → (c : Cpu) × (e : Effects) × (execute Ar x ≡ completed c e) × (general c (r1 x) ≡ 0x80000000) × (conditionCode c ≡ 3)
+
+-- Request 1/12: System/370 guests
+
+-- a BC PSW, with a code and an ILC of its own as they were loaded
+abbrev pub basicPsw : Psw
+basicPsw = record { left = 0xff051111; right = 0x5a001008; system370 = true }
+
+pub record System370Examples : Type 0 where
+  pub modeNeedsVersion2 : (g : Guest) → system370Mode (g .mode) ≡ true → g .version ≡ 1 → entryGood g ≡ false
+  pub modeEnters : (g : Guest) → g .mode ≡ 4 → g .version ≡ 2 → g .origin ≡ 0 → g .extent ≡ 1 → g .prefix ≡ 0 → entryGood g ≡ true
+  pub prefixOf24Bits : (g : Guest) → system370Mode (g .mode) ≡ true → 4096 ≤ g .prefix → entryGood g ≡ false
+  pub basicHasNoDat : (c : Cpu) → basicControl c ≡ true → datOn c ≡ false
+  pub anyChannel : (c : Cpu) → basicControl c ≡ true → pswBit 0 c ≡ true → ioEnabled c ≡ true
+  pub basicIsWellFormed : (c : Cpu) → basicControl c ≡ true → (notInstalled c ≡ false) × (malformed c ≡ false)
+  pub extendedDat : (g : Guest) (clock : ℕ) (requested : Bool) (v : ℕ → Cell) (c : Cpu) → stopRequested g ≡ false → extendedControl c ≡ true
+      → pswBit 5 c ≡ true → unit g clock requested v c ≡ intercepted Validity c
+  pub basicOldPsw : (c : Cpu) → c .psw ≡ basicPsw → pswBytes (oldPsw c 2 8) ≡ 0xff ∷ 0x05 ∷ 0x00 ∷ 0x08 ∷ 0x9a ∷ 0x00 ∷ 0x10 ∷ 0x08 ∷ []
+  pub nothingBeside : (c : Cpu) (fields : List ℕ) → basicControl c ≡ true → fieldsBeside c fields ≡ []
+  pub basicBranch : (c : Cpu) → c .psw ≡ basicPsw
+      → ((withAddress c 0x01002000) .psw .left ≡ 0xff051111) × ((withAddress c 0x01002000) .psw .right ≡ 0x5a002000)
+  pub ioInstructions : (first : ℕ) → first / 256 ≡ 0x9c
+      → ((opcodeOf true first) .class ≡ Mandatory) × ((opcodeOf false first) .class ≡ Unassigned)
+  pub xaInstructions : ((opcodeOf true 0xb230) .class ≡ Unassigned) × ((opcodeOf false 0xb230) .class ≡ Mandatory)
+  pub residueGoesOn : (falls 40959999 1 ≡ true) × (residueAfter 40959999 1 ≡ 2)
+  pub wordWraps : wordAfter 255 ≡ 0xffffffff
+  pub turnsAt255 : requestAfter 0 255 ≡ 0x80
+  pub notAt256 : requestAfter 0 256 ≡ 0
+  pub notWhenNegative : requestAfter 0 0x80000100 ≡ 0
+  pub notWhenItTurnsPositive : requestAfter 0 0x80000000 ≡ 0
+  pub staysSet : (w : ℕ) → requestAfter 0x80 w ≡ 0x80
+  pub requestMakesCode20 : (g : Guest) (clock : ℕ) (v : ℕ → Cell) (c : Cpu) → stopRequested g ≡ false → basicControl c ≡ true
+      → externalEnabled c ≡ true → control c 0 ≡ 0x80 → unit g clock true v c ≡ intercepted (External 0x0080) c

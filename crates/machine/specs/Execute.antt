@@ -16,7 +16,7 @@ use Rattle.machine.specs.Failures.{operation, fixedPointOverflow, except
 use Rattle.machine.specs.Host.{Located, places}
 use Rattle.machine.specs.Addresses.{access, accesses, span, whenReached}
 use Rattle.machine.specs.Outcomes.{Outcome, completed, intercepted, Progress}
-use Rattle.machine.specs.Interruptions.{withBytes, bytesOf, supervisorCallAreas, codeFields, interrupt, exception}
+use Rattle.machine.specs.Interruptions.{withBytes, bytesOf, supervisorCallAreas, codeFields, fieldsBeside, interrupt, exception}
 
 -- the fields of the text
 
@@ -88,7 +88,7 @@ sumCode sum overflow = cond overflow 3 (cond (eqb sum 0) 0 (cond (bit 32 0 sum) 
 unfoldable pub withSum : Cpu → ℕ → ℕ → Bool → Cpu
 withSum c i sum overflow = withConditionCode (withGeneral c i sum) (sumCode sum overflow)
 
--- with PSW bit 20 one, an overflow sets its results and then is program exception 8
+-- with the program mask's first bit one, an overflow sets its results and then is program exception 8
 unfoldable pub summed : Progress → ℕ → Bool → Outcome
 summed x sum overflow =
     cond (overflow && overflowEnabled (x .cpu))
@@ -147,7 +147,9 @@ branchIndexed x = branch x (selected (r1 x) (conditionCode (x .cpu))) (indexedAd
 
 -- SUPERVISOR CALL (SVC): the old PSW has the address after it
 unfoldable pub supervisorCall : Progress → Outcome
-supervisorCall x = interrupt x (next x (x .cpu)) supervisorCallAreas (codeFields (x .text .ilc) (immediate x))
+supervisorCall x =
+    interrupt x (next x (x .cpu)) supervisorCallAreas (immediate x)
+    (fieldsBeside (next x (x .cpu)) (codeFields (x .text .ilc) (immediate x)))
 
 -- LOAD ADDRESS (LA)
 unfoldable pub loadAddress : Progress → Outcome
@@ -163,7 +165,7 @@ load x = fetching x (indexedAddress x) 4 λ bytes. next x (withGeneral (x .cpu) 
 
 -- LOAD PSW (LPSW)
 unfoldable pub loadPsw : Progress → Outcome
-loadPsw x = fetching x (operandAddress x) 8 λ bytes. withPsw (x .cpu) (pswOf bytes 0)
+loadPsw x = fetching x (operandAddress x) 8 λ bytes. withPsw (x .cpu) (pswOf (x .cpu .psw .system370) bytes 0)
 
 -- how many control registers R1 to R3 are, going up and through 15 to 0
 unfoldable pub rangeCount : Progress → ℕ

@@ -82,6 +82,15 @@ unfoldable pub stored : (ℕ → Walk) → List Located → List ℕ → List �
 stored behind [] storage = storage
 stored behind (l ∷ ls) storage = stored behind ls (storeByte (behind (l .absolute)) l storage)
 
+-- the byte at a guest absolute address, in a storage, through the host page behind it; zero where there is none
+unfoldable pub byteIn : Walk → List ℕ → ℕ → ℕ
+byteIn (Failed f) storage a = 0
+byteIn (Page frame protected) storage a = byteAt storage (inFrame frame a)
+
+-- so for bytes at places that were reached
+abbrev pub bytesBehind : (ℕ → Walk) → List ℕ → List Located → List ℕ
+bytesBehind behind storage = map (λ l. byteIn (behind (l .absolute)) storage (l .absolute))
+
 -- key bit 5 (fetched or stored): value 4; key bit 6 (stored): value 2
 
 unfoldable pub referenced : ℕ → ℕ

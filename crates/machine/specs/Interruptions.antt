@@ -1,4 +1,5 @@
 -- Document 01, "Instructions", from "Operation exception with control bit 0": program exceptions and guest interruptions.
+-- Request 1/12: the form of the old PSW decides where code and ILC are stored.
 use Prim.Native.Nat.{ℕ, _*_}
 use mathlib.Core.Bool.{Bool, cond, _&&_, _||_}
 use mathlib.Core.List.{List, [], _∷_, _++_, map}
@@ -9,7 +10,7 @@ use Rattle.machine.specs.declared.Failure.{Failure}
 use Rattle.machine.specs.declared.Reason.the-variants.{Program, Operation}
 use Rattle.machine.specs.Words.{bit, halfBytes, wordBytes}
 use Rattle.machine.specs.Record.{pswOf, pswBytes}
-use Rattle.machine.specs.Psw.{withPsw, advanced}
+use Rattle.machine.specs.Psw.{basicControl, withPsw, advanced, oldPsw}
 use Rattle.machine.specs.Failures.{operation, isTranslation}
 use Rattle.machine.specs.Host.{Located, places}
 use Rattle.machine.specs.Addresses.{realAccess, accesses, upFrom, whenReached}
@@ -40,19 +41,24 @@ supervisorCallAreas = record { old = 32; code = 136; new = 96 }
 abbrev pub codeFields : ℕ → ℕ → List ℕ
 codeFields ilc code = 0 ∷ ilc * 2 ∷ halfBytes code
 
--- An interruption, with `c` the state whose PSW becomes the old one. The old PSW's bytes are accessed first, then the code fields,
+-- no code fields are stored beside an old PSW that is BC: it has code and ILC itself
+unfoldable pub fieldsBeside : Cpu → List ℕ → List ℕ
+fieldsBeside c fields = cond (basicControl c) [] fields
+
+-- An interruption, with `c` the state whose PSW becomes the old one, and with the code fields that are stored beside that. The old PSW's
+-- bytes are accessed first, then the code fields,
 -- then the new PSW is fetched; no store happens until every access is known good. The prefix page lies below the extent, so an
 -- access that fails is a host fault.
-unfoldable pub interrupt : Progress → Cpu → Areas → List ℕ → Outcome
-interrupt x c areas fields =
+unfoldable pub interrupt : Progress → Cpu → Areas → ℕ → List ℕ → Outcome
+interrupt x c areas code fields =
     whenReached
     (accesses (realAccess (x .guest) (x .view) Bool.true) (upFrom (areas .old) 8 ++ upFrom (areas .code) (length fields)))
     faulted
     λ stores.
     whenReached (accesses (realAccess (x .guest) (x .view) Bool.false) (upFrom (areas .new) 8)) faulted
     λ fetched.
-    completed (withPsw c (pswOf (bytesOf fetched) 0))
-    (record { fetched = x .fetched ++ places fetched; stores = withBytes stores (pswBytes (c .psw) ++ fields) })
+    completed (withPsw c (pswOf (c .psw .system370) (bytesOf fetched) 0))
+    (record { fetched = x .fetched ++ places fetched; stores = withBytes stores (pswBytes (oldPsw c (x .text .ilc) code) ++ fields) })
 
 -- segment and page exceptions leave the address at the instruction; others advance it, except ILC 0
 unfoldable pub afterException : Progress → Cpu → Failure → Cpu
@@ -69,4 +75,4 @@ exception x c f =
     cond (f .host) (faulted f)
     (cond (eqb (f .code) operation && bit 8 0 (x .guest .interceptions)) (intercepted (Operation (x .text)) (afterException x c f))
     (cond (bit 8 1 (x .guest .interceptions)) (intercepted (Program (f .code) (x .text .ilc) (f .address)) (afterException x c f))
-    (interrupt x (afterException x c f) programAreas (programFields x f))))
+    (interrupt x (afterException x c f) programAreas (f .code) (fieldsBeside (afterException x c f) (programFields x f)))))

@@ -1,7 +1,8 @@
--- The definition of document 01. One module for each part; docs/ARCHITECTURE.md has the table of headings and names.
+-- The definition of document 01 with request 1/12. One module for each part; docs/ARCHITECTURE.md has the table of headings and names.
 pub mod Sizes
 pub mod Words
 pub mod Record
+pub mod Interval
 pub mod Refusals
 pub mod Entry
 pub mod Psw
@@ -21,6 +22,7 @@ pub mod Operations
 pub mod Answers
 pub mod Theorems
 pub mod Isolation
+pub mod IntervalTimer
 pub mod IsolationOfAnswers
 pub mod Examples
 pub mod IsolationIsNotEmpty

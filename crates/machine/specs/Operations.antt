@@ -1,12 +1,14 @@
 -- The three public operations: check a record, translate one guest address, run. Document 01, "What is built", "The record", "Entry".
+-- Request 1/12: a System/370 guest has no DAT.
 use Prim.Native.Nat.{ℕ}
-use mathlib.Core.Bool.{cond}
+use mathlib.Core.Bool.{Bool, cond, not, _&&_}
 use mathlib.Core.List.{List}
 use lib.Dec.{eqb}
 use Rattle.machine.specs.declared.Answer.{Answer}
 use Rattle.machine.specs.declared.Answer.the-variants as answer
 use Rattle.machine.specs.declared.Checked.{Checked}
 use Rattle.machine.specs.declared.Checked.the-variants as checked
+use Rattle.machine.specs.declared.Cpu.{Cpu}
 use Rattle.machine.specs.declared.End.the-variants.{Intercepted, BudgetUsed}
 use Rattle.machine.specs.declared.Guest.{Guest}
 use Rattle.machine.specs.declared.Numbers.{Numbers}
@@ -20,7 +22,7 @@ use Rattle.machine.specs.declared.Walk.the-variants.{Page, Failed}
 use Rattle.machine.specs.Record.{guestOf, cpuOf, withResults}
 use Rattle.machine.specs.Refusals.{checkVerdict, translateVerdict, runVerdict}
 use Rattle.machine.specs.Entry.{entryGood}
-use Rattle.machine.specs.Psw.{wrap}
+use Rattle.machine.specs.Psw.{datOn, wrap}
 use Rattle.machine.specs.Host.{Host, inFrame, backing, view}
 use Rattle.machine.specs.Addresses.{Access, reached, denied, access}
 use Rattle.machine.specs.Run.{Machine, Ended, run}
@@ -48,11 +50,15 @@ unfoldable pub translatedTo : Guest → Host → Access → Translated
 translatedTo g h (denied f) = translated.Failed f
 translatedTo g h (reached l) = addressIn (l .absolute) (backing g h (l .absolute))
 
+-- DAT is off, or the guest is a 370-XA one
+unfoldable pub translates : Cpu → Bool
+translates c = not (datOn c && c .psw .system370)
+
 -- kind 1 is a store; kinds 0 and 2, fetches, are tested alike
 unfoldable pub translatedAs : List ℕ → Host → ℕ → ℕ → Verdict → Translated
 translatedAs r h a kind (Refused number) = translated.Refused number
 translatedAs r h a kind Accepted =
-    cond (entryGood (guestOf r))
+    cond (entryGood (guestOf r) && translates (cpuOf r))
     (translatedTo (guestOf r) h (access (guestOf r) (view (guestOf r) h) (cpuOf r) (eqb kind 1) (wrap (cpuOf r) a)))
     translated.Validity
 

@@ -1,15 +1,16 @@
--- Document 01, "The record", the table of refusals. Refusal 9 is the case file's.
+-- Document 01, "The record", the table of refusals, and request 1/12 on 1, 2 and 7. Refusal 9 is the case file's.
 use Prim.Native.Nat.{ℕ, zero, suc, _+_, _*_, _/_, _%_}
 use mathlib.Core.Bool.{Bool, false, cond, not, _&&_, _||_}
 use mathlib.Core.List.{List}
-use lib.Dec.{eqb, ltb}
+use lib.Dec.{eqb, leb, ltb}
 use lib.ListN.{length}
 use Rattle.machine.specs.declared.Numbers.{Numbers}
 use Rattle.machine.specs.declared.Verdict.{Verdict}
 use Rattle.machine.specs.declared.Verdict.the-variants.{Accepted, Refused}
 use Rattle.machine.specs.Sizes.{frameBytes}
 use Rattle.machine.specs.Words.{byteAt, halfAt}
-use Rattle.machine.specs.Record.{recordLength, recordVersion}
+use Rattle.machine.specs.Record.{recordLength, longLength, versionFor, residueOf}
+use Rattle.machine.specs.Interval.{period}
 
 abbrev pub mostFrames : ℕ
 mostFrames = 4096
@@ -24,13 +25,17 @@ mostTime = 1048576
 abbrev pub framesOf : List ℕ → ℕ
 framesOf storage = length storage / frameBytes
 
--- 1: record or its length field is not 200
-unfoldable pub wrongLength : List ℕ → Bool
-wrongLength r = not (eqb (length r) recordLength && eqb (halfAt r 0) recordLength)
+-- record and length field are both so long
+abbrev pub lengthIs : ℕ → List ℕ → Bool
+lengthIs long r = eqb (length r) long && eqb (halfAt r 0) long
 
--- 2: version is not 1
+-- 1: record and its length field are not both 200 or both 208
+unfoldable pub wrongLength : List ℕ → Bool
+wrongLength r = not (lengthIs recordLength r || lengthIs longLength r)
+
+-- 2: version is not 1 of 200 bytes, or 2 of 208
 unfoldable pub wrongVersion : List ℕ → Bool
-wrongVersion r = not (eqb (byteAt r 2) recordVersion)
+wrongVersion r = not (eqb (byteAt r 2) (versionFor (length r)))
 
 -- 3: storage is empty, over 4,096 frames or not whole frames
 unfoldable pub wrongStorage : List ℕ → Bool
@@ -53,9 +58,13 @@ unfoldable pub used : List ℕ → ℕ → ℕ → Bool
 used r a zero = false
 used r a (suc n) = not (eqb (byteAt r a) 0) || used r (a + 1) n
 
--- 7: one of bytes 66-71 is not zero
+-- in the longer record one of bytes 201-203 is not zero, or the residue is out of range
+unfoldable pub wrongInterval : List ℕ → Bool
+wrongInterval r = eqb (length r) longLength && (used r 201 3 || leb period (residueOf r))
+
+-- 7: one of bytes 66-71 is not zero, or the interval timer's fields are wrong
 unfoldable pub reservedUsed : List ℕ → Bool
-reservedUsed r = used r 66 6
+reservedUsed r = used r 66 6 || wrongInterval r
 
 -- 8: access kind is not 0 (operand fetch), 1 (store) or 2 (instruction fetch)
 unfoldable pub wrongAccess : ℕ → Bool

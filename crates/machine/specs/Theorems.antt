@@ -1,7 +1,7 @@
 -- What is proved of the definition, beside the worked examples and demand 3. Each statement is a type here; its proof is in proofs/.
 use Prim.Native.Nat.{ℕ, _+_, _-_, _*_, _%_, _^_, _≤_, _<_}
 use mathlib.Core.Path.{_≡_}
-use mathlib.Core.Bool.{Bool, true}
+use mathlib.Core.Bool.{Bool, true, false}
 use mathlib.Core.List.{List, [], _∷_}
 use mathlib.Core.Logic.{_⊎_}
 use lib.ListN.{length}
@@ -14,12 +14,13 @@ use Rattle.machine.specs.declared.End.the-variants.{Intercepted, HostFau
 use Rattle.machine.specs.declared.Failure.{Failure}
 use Rattle.machine.specs.declared.Guest.{Guest}
 use Rattle.machine.specs.declared.Numbers.{Numbers}
-use Rattle.machine.specs.declared.Reason.the-variants.{Stop}
+use Rattle.machine.specs.declared.Reason.the-variants.{External, Stop}
 use Rattle.machine.specs.declared.Verdict.the-variants.{Accepted}
 use Rattle.machine.specs.declared.Walk.{Walk}
 use Rattle.machine.specs.declared.Walk.the-variants.{Page, Failed}
 use Rattle.machine.specs.Words.{byteAt, halfAt, doubleAt}
-use Rattle.machine.specs.Record.{recordLength, recordVersion, pswAt, timerAt, resultsAt, controlAt, guestOf, cpuOf}
+use Rattle.machine.specs.Record.{longLength, GoodLength, versionFor, pswAt, timerAt, resultsAt, controlAt, requestAt, residueAt, guestOf, cpuOf, requestOf, residueOf}
+use Rattle.machine.specs.Interval.{active, period, withoutT}
 use Rattle.machine.specs.Sizes.{frameBytes}
 use Rattle.machine.specs.Refusals.{mostFrames, mostUnits, mostTime, checkVerdict, translateVerdict, runVerdict}
 use Rattle.machine.specs.Entry.{extentBytes, entryGood}
@@ -32,8 +33,8 @@ use Rattle.machine.specs.Opcodes.{opcodeOf}
 use Rattle.machine.specs.Outcomes.{Effects, completed, Progress}
 use Rattle.machine.specs.Interruptions.{exception}
 use Rattle.machine.specs.Execute.{storing}
-use Rattle.machine.specs.Units.{halfword, halfOf, started, stopRequested}
-use Rattle.machine.specs.Run.{Machine, ends, step, hostOf, unitFrom, behindOf, run}
+use Rattle.machine.specs.Units.{halfword, halfOf, started, intervalCode, stopRequested}
+use Rattle.machine.specs.Run.{Machine, goes, ends, step, hostOf, unitFrom, behindOf, markedBy, wordAccesses, run}
 use Rattle.machine.specs.Operations.{Result, machineOf, runOf}
 
 -- the numbers with another budget
@@ -42,10 +43,12 @@ withBudget n budget = record { designation = n .designation; clock = n .clock; t
 
 -- a record, a storage and keys that no refusal names
 pub record GoodInput (r storage keys : List ℕ) : Type 0 where
-  pub long : length r ≡ recordLength
-  pub lengthField : halfAt r 0 ≡ recordLength
-  pub version : byteAt r 2 ≡ recordVersion
+  pub long : GoodLength r
+  pub lengthField : halfAt r 0 ≡ length r
+  pub version : byteAt r 2 ≡ versionFor (length r)
   pub reserved : (i : ℕ) → 66 ≤ i → i < 72 → byteAt r i ≡ 0
+  pub reservedToo : length r ≡ longLength → (i : ℕ) → 201 ≤ i → i < 204 → byteAt r i ≡ 0
+  pub residue : length r ≡ longLength → residueOf r < period
   pub frames : ℕ
   pub some : 0 < frames
   pub few : frames ≤ mostFrames
@@ -106,7 +109,7 @@ Resumption = (n : Numbers) (a b : ℕ) (r storage keys : List ℕ) → n .clock 
 pub record AtSpt (n : Numbers) (m : Machine) : Type 0 where
   pub text : List Located
   pub read : halfword (started (guestOf (m .description)) (m .clock) (view (guestOf (m .description)) (hostOf n m)) (cpuOf (m .description)) 1) 0 ≡ all text
-  pub class : (opcodeOf (halfOf text)) .class ≡ Spt
+  pub class : (opcodeOf ((cpuOf (m .description)) .psw .system370) (halfOf text)) .class ≡ Spt
 
 -- THE TIMER: where none of the completed units starts at an SPT, the CPU timer has fallen by the time per unit, once for each of them,
 -- however the run ended
@@ -116,16 +119,24 @@ TimerFalls = (n : Numbers) (r storage keys : List ℕ) (end : End) (units : ℕ)
     → ((i : ℕ) → i < units → AtSpt n ((run i n (machineOf n r storage keys)) .machine) → ⊥)
     → doubleAt ((runOf n r storage keys) .description) timerAt ≡ (doubleAt r timerAt + units * (2 ^ 64 - n .time)) % 2 ^ 64
 
--- an exit is no unit: it charges no time, stores nothing and marks nothing
-pub record Uncharged (before after : Machine) : Type 0 where
+-- the exit that the interval timer's request makes: code 20 with 0080 hex
+abbrev pub intervalExit : End
+intervalExit = Intercepted (External intervalCode)
+
+-- an exit is no unit: it charges no time, to the interval timer neither, stores nothing and marks nothing. T stays as it is, but for the
+-- exit that it makes, which clears it.
+pub record Uncharged (end : End) (before after : Machine) : Type 0 where
   pub timer : doubleAt (after .description) timerAt ≡ doubleAt (before .description) timerAt
+  pub residue : residueOf (after .description) ≡ residueOf (before .description)
+  pub request : (end ≡ intervalExit → ⊥) → requestOf (after .description) ≡ requestOf (before .description)
+  pub cleared : end ≡ intervalExit → requestOf (after .description) ≡ withoutT (requestOf (before .description))
   pub clock : after .clock ≡ before .clock
   pub storage : after .storage ≡ before .storage
   pub keys : after .keys ≡ before .keys
 
 abbrev pub ExitChargesNothing : Type 0
-ExitChargesNothing = (n : Numbers) (m after : Machine) (end : End) → length (m .description) ≡ recordLength
-    → doubleAt (m .description) timerAt < 2 ^ 64 → step n m ≡ ends end after → Uncharged m after
+ExitChargesNothing = (n : Numbers) (m after : Machine) (end : End) → GoodLength (m .description)
+    → doubleAt (m .description) timerAt < 2 ^ 64 → step n m ≡ ends end after → Uncharged end m after
 
 -- a host fault leaves what the run of just the completed units leaves
 abbrev pub HostFaultUndoesItsUnit : Type 0
@@ -151,6 +162,15 @@ abbrev pub EffectsAreBacked : Type 0
 EffectsAreBacked = (n : Numbers) (m : Machine) (c : Cpu) (e : Effects) → unitFrom n m ≡ completed c e
     → Each (HasPage (behindOf n m)) (e .fetched) × Each (HasPage (behindOf n m)) (places (e .stores))
 
+-- nor is the interval timer's: a host page is behind each byte of its word that was reached
+abbrev pub WordIsBacked : Type 0
+WordIsBacked = (n : Numbers) (m : Machine) (at : List Located) → wordAccesses n m ≡ all at → Each (HasPage (behindOf n m)) (places at)
+
+-- the keys after a completed unit have the marks of its own effects alone: the interval timer's update marks none
+abbrev pub MarksAreTheUnits : Type 0
+MarksAreTheUnits = (n : Numbers) (m next : Machine) (c : Cpu) (e : Effects) → unitFrom n m ≡ completed c e → step n m ≡ goes next
+    → next .keys ≡ markedBy (behindOf n m) e (m .keys)
+
 -- the host fault of a run is the host's, and no exception of the guest
 abbrev pub FaultsAreTheHosts : Type 0
 FaultsAreTheHosts = (n : Numbers) (r storage keys : List ℕ) (f : Failure) (units : ℕ)
@@ -167,13 +187,17 @@ pub record LengthsKept : Type 0 where
   pub ofStorage : (n : Numbers) (r storage keys : List ℕ) → length ((runOf n r storage keys) .storage) ≡ length storage
   pub ofKeys : (n : Numbers) (r storage keys : List ℕ) → length ((runOf n r storage keys) .keys) ≡ length keys
 
--- a byte of the record that no rule names: not of the PSW, the CPU timer, the results or the registers
-abbrev pub Unnamed : ℕ → Type 0
-Unnamed i = (i < pswAt) ⊎ ((timerAt + 8 ≤ i) × (i < resultsAt)) ⊎ ((resultsAt + 14 ≤ i) × (i < controlAt))
+-- a byte of the record that no rule names: not of the PSW, the CPU timer, the results or the registers, nor, where the interval timer is
+-- active, its request byte or of its residue
+abbrev pub Unnamed : Bool → ℕ → Type 0
+Unnamed timed i =
+    (i < pswAt) ⊎ ((timerAt + 8 ≤ i) × (i < resultsAt)) ⊎ ((resultsAt + 14 ≤ i) × (i < controlAt)) ⊎ ((requestAt < i) × (i < residueAt))
+    ⊎ ((timed ≡ false) × (requestAt ≤ i))
 
 -- every such byte is kept, V (byte 3) among them
 abbrev pub BytesKept : Type 0
-BytesKept = (n : Numbers) (r storage keys : List ℕ) (i : ℕ) → Unnamed i → byteAt ((runOf n r storage keys) .description) i ≡ byteAt r i
+BytesKept = (n : Numbers) (r storage keys : List ℕ) (i : ℕ) → Unnamed (active (guestOf r)) i
+    → byteAt ((runOf n r storage keys) .description) i ≡ byteAt r i
 
 -- Slips that the definition does not make: a store is an exception where any of its bytes is denied, on whichever page; the extent is
 -- tested before the origin is added; clocks are compared unsigned; keys do not guard table reads.

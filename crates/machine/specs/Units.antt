@@ -1,4 +1,5 @@
--- Document 01, "Before each unit, first that applies", and "Instructions", the order of an instruction's tests.
+-- Document 01, "Before each unit, first that applies", and "Instructions", the order of an instruction's tests. Request 1/12: the
+-- interval timer's request comes after step 5.
 use Prim.Native.Nat.{ℕ, zero, suc, _+_, _*_, _%_}
 use mathlib.Core.Bool.{Bool, false, cond, not, _&&_, _||_}
 use mathlib.Core.List.{List, [], _++_}
@@ -71,8 +72,8 @@ reading x t more = record {
   fetched = x .fetched ++ places more;
 }
 
-abbrev pub firstText : ℕ → Text
-firstText first = record { ilc = (opcodeOf first) .length; first = first; second = 0; third = 0 }
+abbrev pub firstText : Bool → ℕ → Text
+firstText system370 first = record { ilc = (opcodeOf system370 first) .length; first = first; second = 0; third = 0 }
 
 abbrev pub secondText : Text → ℕ → Text
 secondText t second = record { ilc = t .ilc; first = t .first; second = second; third = 0 }
@@ -84,15 +85,19 @@ thirdText t third = record { ilc = t .ilc; first = t .first; second = t .second;
 abbrev pub halfOf : List Located → ℕ
 halfOf ls = halfAt (bytesOf ls) 0
 
+-- what the table says of the instruction
+abbrev pub opcodeIn : Progress → Opcode
+opcodeIn x = opcodeOf (x .cpu .psw .system370) (x .text .first)
+
 unfoldable pub fetchThird : Progress → Outcome
 fetchThird x =
-    cond (ltb (x .text .ilc) 3) (decoded x (opcodeOf (x .text .first)))
+    cond (ltb (x .text .ilc) 3) (decoded x (opcodeIn x))
     (whenReached (halfword x 2) (exception x (x .cpu))
-    λ third. decoded (reading x (thirdText (x .text) (halfOf third)) third) (opcodeOf (x .text .first)))
+    λ third. decoded (reading x (thirdText (x .text) (halfOf third)) third) (opcodeIn x))
 
 unfoldable pub fetchSecond : Progress → Outcome
 fetchSecond x =
-    cond (ltb (x .text .ilc) 2) (decoded x (opcodeOf (x .text .first)))
+    cond (ltb (x .text .ilc) 2) (decoded x (opcodeIn x))
     (whenReached (halfword x 1) (exception x (x .cpu))
     λ second. fetchThird (reading x (secondText (x .text) (halfOf second)) second))
 
@@ -111,7 +116,8 @@ started g clock v c ilc = record {
 unfoldable pub instruction : Progress → Outcome
 instruction x =
     cond (eqb (instructionAddress (x .cpu) % 2) 1) (exception x (x .cpu) (exceptionOf specification))
-    (whenReached (halfword x 0) (exception x (x .cpu)) λ first. fetchSecond (reading x (firstText (halfOf first)) first))
+    (whenReached (halfword x 0) (exception x (x .cpu))
+    λ first. fetchSecond (reading x (firstText (x .cpu .psw .system370) (halfOf first)) first))
 
 -- the interruption codes of code 20
 
@@ -120,6 +126,9 @@ comparatorCode = 0x1004
 
 abbrev pub timerCode : ℕ
 timerCode = 0x1005
+
+abbrev pub intervalCode : ℕ
+intervalCode = 0x0080
 
 -- V, the intervention requests
 
@@ -132,14 +141,15 @@ ioRequested g = bit 8 6 (g .interventions)
 abbrev pub externalRequested : Guest → Bool
 externalRequested g = bit 8 7 (g .interventions)
 
--- one unit of the guest from this state at this host clock: the list, first that applies
-unfoldable pub unit : Guest → ℕ → (ℕ → Cell) → Cpu → Outcome
-unit g clock v c =
+-- one unit of the guest from this state at this host clock, with the interval timer's request or without: the list, first that applies
+unfoldable pub unit : Guest → ℕ → Bool → (ℕ → Cell) → Cpu → Outcome
+unit g clock requested v c =
     cond (stopRequested g) (intercepted Stop c)
     (cond (notInstalled c) (intercepted Validity c)
     (cond (malformed c) (exception (started g clock v c 0) c (exceptionOf specification))
     (cond (externalEnabled c && bit 32 20 (control c 0) && comparatorDue g clock) (intercepted (External comparatorCode) c)
     (cond (externalEnabled c && bit 32 21 (control c 0) && timerDue c) (intercepted (External timerCode) c)
+    (cond (externalEnabled c && bit 32 24 (control c 0) && requested) (intercepted (External intervalCode) c)
     (cond (externalRequested g && externalEnabled c) (intercepted ExternalRequest c)
     (cond (ioRequested g && ioEnabled c) (intercepted IoRequest c)
-    (cond (waiting c) (intercepted Wait c) (instruction (started g clock v c 1)))))))))
+    (cond (waiting c) (intercepted Wait c) (instruction (started g clock v c 1))))))))))

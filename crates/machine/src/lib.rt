@@ -6,10 +6,11 @@ pub struct Registers {
     pub words: [u32; 16],
 }
 
-// The program status word: bits 0-31 and bits 32-63.
+// The program status word: bits 0-31, bits 32-63, and whether it is read as System/370's, BC or EC, or as 370-XA's.
 pub struct Psw {
     pub left: u32,
     pub right: u32,
+    pub system370: bool,
 }
 
 // The part of the guest's state that units change.
@@ -23,6 +24,7 @@ pub struct Cpu {
 // The part of the guest's state that no unit changes. The prefix is the number of its 4 KiB block; svc holds the SVC flags
 // and svc1 to svc3 the SVC numbers.
 pub struct Guest {
+    pub version: u8,
     pub interventions: u8,
     pub mode: u8,
     pub interceptions: u8,

@@ -161,10 +161,13 @@ touch-state g h c later accesses controls store a =
     ∙ sym (touched-is g h c store a)
   where
     dat : datOn later ≡ datOn c
-    dat = let same : later .psw .left / 67108864 ≡ c .psw .left / 67108864 = omega (arith, accesses) in rw same
+    dat =
+        let same : later .psw .left / 67108864 ≡ c .psw .left / 67108864 = omega (arith, accesses .left) in
+        let form : later .psw .left / 524288 ≡ c .psw .left / 524288 = omega (arith, accesses .left) in
+        rw (same, form, accesses .system370)
 
     key : accessKey later ≡ accessKey c
-    key = omega (arith, accesses)
+    key = omega (arith, accesses .left)
 
     low : lowProtected later a ≡ lowProtected c a
     low = rw controls

@@ -42,9 +42,11 @@ pub record Inside (storage keys : List ℕ) (kept : Kept) : Type 0 where
 abbrev pub Marked : List ℕ → List ℕ → Type 0
 Marked keys later = (i : ℕ) → getD later i 0 / 8 ≡ getD keys i 0 / 8
 
--- PSWs that differ behind bit 17 alone: the condition code, the program mask, the addressing mode and the address guard no access
-abbrev pub AccessAlike : Psw → Psw → Type 0
-AccessAlike psw later = later .left / 16384 ≡ psw .left / 16384
+-- PSWs of one kind that differ behind bit 17 alone: the condition code, the program mask, the addressing mode and the address guard no
+-- access
+pub record AccessAlike (psw later : Psw) : Type 0 where
+  pub left : later .left / 16384 ≡ psw .left / 16384
+  pub system370 : later .system370 ≡ psw .system370
 
 -- with a page of one kind: 1 for texts, 2 for operands that are fetched, else for operands that are stored
 unfoldable pub withPage : Kept → ℕ → Page → Kept

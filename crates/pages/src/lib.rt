@@ -1,6 +1,7 @@
-// Pages whose translation is kept from one unit to the next: one for texts, one for operands that are fetched, one for operands that
-// are stored. A guard names the frames that decide the translations.
+// Pages of a 370-XA guest whose translation is kept from one unit to the next: one for texts, one for operands that are fetched, one
+// for operands that are stored. A guard names the frames that decide the translations.
 ghost use mathlib.Core.Path.{_≡_};
+ghost use mathlib.Core.Bool.{false};
 ghost use mathlib.Core.List.{List};
 ghost use Prim.Native.Nat.{ℕ, _≤_, _<_};
 ghost use lib.ListN.{length};
@@ -93,7 +94,8 @@ pub fn keep(
     kind: u32,
     a: u32,
 ) -> Kept
-    requires { ⌜ Entered guest × (framesOf (now storage) ≤ length (now keys)) × (a < 2147483648) × (length (now guard) ≡ 64) × (0 < kind) × (kind < 4) ⌝ }
+    requires { ⌜ Entered guest × (framesOf (now storage) ≤ length (now keys)) × (a < 2147483648) × (length (now guard) ≡ 64) × (0 < kind) × (kind < 4)
+        × (psw .system370 ≡ false) ⌝ }
     ensures { λ r. ⌜ ((c : Cpu) → c .psw ≡ psw → c .control ≡ control → Holds (now (guard .entry)) guest (host designation (now (storage .entry)) (now (keys .entry))) c kept
         → Holds (now (guard .exit)) guest (host designation (now (storage .entry)) (now (keys .entry))) c r) ⌝ }
     ensures { λ r. ⌜ (Inside (now (storage .entry)) (now (keys .entry)) kept → Inside (now (storage .entry)) (now (keys .entry)) r) ⌝ }

@@ -4,7 +4,7 @@ use Prim.Native.Nat.{ℕ, _/_, _%_, _≤_, _<_}
 use native.Mathlib.Nat.{div-one}
 use native.Mathlib.Omega.{arith}
 use mathlib.Core.Path.{_≡_, refl, ap, sym, subst, _∙_}
-use mathlib.Core.Bool.{false, _&&_}
+use mathlib.Core.Bool.{Bool, false, _&&_}
 use mathlib.Core.List.{List}
 use borrow.Author.Tests.{eq-eqb, ne-eqb, lt-ltb}
 use lib.Dec.{eqb}
@@ -14,7 +14,7 @@ use Rattle.machine.specs.declared.Opcode.{Opcode}
 use Rattle.machine.specs.declared.Psw.{Psw}
 use Rattle.machine.specs.Words.{bits}
 use Rattle.machine.specs.Psw.{problemState, general}
-use Rattle.machine.specs.Opcodes.{lengthOf, numberOf, sameClass, row, opcodes, find, opcodeOf}
+use Rattle.machine.specs.Opcodes.{lengthOf, numberOf, sameClass, both, row, opcodes, find, opcodeOf}
 use Rattle.machine.specs.Outcomes.{Outcome, Progress}
 use Rattle.machine.specs.Execute.{r1, r2, operandAddress, execute}
 use Rattle.machine.specs.Units.{intercepts, misaligned, decoded}
@@ -41,10 +41,11 @@ pub record Plain (o : Opcode) (kind : Class) : Type 0 where
   alignment : o .alignment ≡ 1
 
 -- what the table says of a first byte that is not B2
-pub listed : (first n : ℕ) (kind : Class) → first / 256 ≡ n → eqb n 0xb2 ≡ false → find n opcodes ≡ row n false 1 kind → Plain (opcodeOf first) kind
+pub listed : (system370 : Bool) (first n : ℕ) (kind : Class) → first / 256 ≡ n → eqb n 0xb2 ≡ false → find system370 n opcodes ≡ row both n false 1 kind
+    → Plain (opcodeOf system370 first) kind
 unfolding numberOf opcodeOf
-listed first n kind here one-byte found =
-    let same : find (numberOf first) opcodes ≡ row n false 1 kind = rw (here, one-byte) found in
+listed system370 first n kind here one-byte found =
+    let same : find system370 (numberOf first) opcodes ≡ row both n false 1 kind = rw (here, one-byte) found in
     record { class = ap (λ r. r .class) same; privileged = ap (λ r. r .privileged) same; alignment = ap (λ r. r .alignment) same }
 
 never-misaligned : (a : ℕ) → misaligned 1 a ≡ false

@@ -73,24 +73,24 @@ module _ (h : Host) (g : Guest) (clock : ℕ) (c : Cpu) (kept : Kept) (at place 
 
   -- the fetch from the kept page
   abbrev FetchedHere : ℕ → ℕ → Type 0
-  FetchedHere first second = FetchedAs h g clock c (instruction (started g clock (view g h) c 1)) (opcodeOf first) (whole (shortText first second) (textFrame kept))
+  FetchedHere first second = FetchedAs h g clock c (instruction (started g clock (view g h) c 1)) (opcodeOf (c .psw .system370) first) (whole (shortText first second) (textFrame kept))
 
   -- of one halfword
   pub reads-one : (first : ℕ) → first ≡ halfAt (h .storage) place → lengthOf first < 2 → FetchedHere first 0
   unfolding opcodeOf
   reads-one first read short =
-      subst (λ t. FetchedAs h g clock c (instruction (started g clock (view g h) c 1)) (opcodeOf first) (whole (shortText first 0) t)) in-frame
-      (first-open noText noFrames place (oneFrame place) (marked-first place) (shortText first 0) (opcodeOf first) (whole (shortText first 0) (oneFrame place)) found
-      (ap (λ half. firstText half) read) refl (second-spare (shortText first 0) (oneFrame place) short) _ clock c refl refl (standing-started h g clock c 1 refl))
+      subst (λ t. FetchedAs h g clock c (instruction (started g clock (view g h) c 1)) (opcodeOf (c .psw .system370) first) (whole (shortText first 0) t)) in-frame
+      (first-open noText noFrames place (oneFrame place) (marked-first place) (shortText first 0) (opcodeOf (c .psw .system370) first) (whole (shortText first 0) (oneFrame place)) found
+      (ap (firstText (c .psw .system370)) read) refl (second-spare (shortText first 0) (oneFrame place) short) _ clock c refl refl (standing-started h g clock c 1 refl))
 
   -- of two halfwords
   pub reads-two : (first second : ℕ) → first ≡ halfAt (h .storage) place → second ≡ halfAt (h .storage) (place + 2) → 2 ≤ lengthOf first → lengthOf first < 3
       → at % 4096 < 4094 → FetchedHere first second
   unfolding opcodeOf
   reads-two first second read next more short inside =
-      subst (λ t. FetchedAs h g clock c (instruction (started g clock (view g h) c 1)) (opcodeOf first) (whole (shortText first second) t)) in-frame
-      (first-open noText noFrames place (oneFrame place) (marked-first place) (shortText first 0) (opcodeOf first) (whole (shortText first second) (oneFrame place)) found
-      (ap (λ half. firstText half) read) refl
+      subst (λ t. FetchedAs h g clock c (instruction (started g clock (view g h) c 1)) (opcodeOf (c .psw .system370) first) (whole (shortText first second) t)) in-frame
+      (first-open noText noFrames place (oneFrame place) (marked-first place) (shortText first 0) (opcodeOf (c .psw .system370) first) (whole (shortText first second) (oneFrame place)) found
+      (ap (firstText (c .psw .system370)) read) refl
       (second-open (shortText first 0) (oneFrame place) (place + 2) (oneFrame place)
       (marked-once (ends-in-first place place at refl) (place + 2) (omega (arith, same-offset found)))
       (shortText first second) (whole (shortText first second) (oneFrame place)) more (further found inside)

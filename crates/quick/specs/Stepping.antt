@@ -38,7 +38,7 @@ textFrame kept = record { count = 1; first = kept .text .frame; second = 0 }
 abbrev pub Reads : List ℕ → Psw → Kept → Short → Type 0
 Reads storage psw kept r =
     (h : Host) (g : Guest) (clock : ℕ) (c : Cpu) → h .storage ≡ storage → c .psw ≡ psw → Leads g h c false (kept .text)
-    → FetchedAs h g clock c (instruction (started g clock (view g h) c 1)) (opcodeOf (r .first)) (whole (shortText (r .first) (r .second)) (textFrame kept))
+    → FetchedAs h g clock c (instruction (started g clock (view g h) c 1)) (opcodeOf (c .psw .system370) (r .first)) (whole (shortText (r .first) (r .second)) (textFrame kept))
 
 -- a completed unit as execute's Done
 abbrev pub doneOf : Cpu → Quick → Done

@@ -231,7 +231,7 @@ fn store_step(
 fn register_step(keys: &mut [u8], psw: Psw, kept: Kept, first: u32, value: u32, index: u32) -> Quick
     requires { ⌜ (kept .text .frame < length (now keys)) × (first < 16384) ⌝ }
     ensures { λ r. ⌜ ((guard storage : List ℕ) (second base : ℕ)
-        → Stepped (λ x. decoded x (opcodeOf first)) guard storage (now (keys .entry)) psw kept first second value index base r storage (now (keys .exit))) ⌝ }
+        → Stepped (λ x. decoded x (opcodeOf (psw .system370) first)) guard storage (now (keys .entry)) psw kept first second value index base r storage (now (keys .exit))) ⌝ }
 {
     match first / 256 {
         0x18 => set_step(keys, psw, kept, 1, first / 16 % 16, index),
@@ -286,7 +286,7 @@ fn indexed_step(
 ) -> Quick
     requires { ⌜ Inside (now storage) (now keys) kept × (kept .text .number < 524288) × (length (now guard) ≡ 64) ⌝ }
     requires { ⌜ (16384 ≤ first) × (first < 49152) × (second < 65536) ⌝ }
-    ensures { λ r. ⌜ Stepped (λ x. decoded x (opcodeOf first)) (now (guard .entry)) (now (storage .entry)) (now (keys .entry)) psw kept first second value index base r
+    ensures { λ r. ⌜ Stepped (λ x. decoded x (opcodeOf (psw .system370) first)) (now (guard .entry)) (now (storage .entry)) (now (keys .entry)) psw kept first second value index base r
         (now (storage .exit)) (now (keys .exit)) ⌝ }
 {
     let a = indexed(psw, first, second, index, base);
@@ -314,7 +314,7 @@ fn step(
 ) -> Quick
     requires { ⌜ Inside (now storage) (now keys) kept × (kept .text .number < 524288) × (length (now guard) ≡ 64) ⌝ }
     requires { ⌜ (first < 49152) × (second < 65536) ⌝ }
-    ensures { λ r. ⌜ Stepped (λ x. decoded x (opcodeOf first)) (now (guard .entry)) (now (storage .entry)) (now (keys .entry)) psw kept first second value index base r
+    ensures { λ r. ⌜ Stepped (λ x. decoded x (opcodeOf (psw .system370) first)) (now (guard .entry)) (now (storage .entry)) (now (keys .entry)) psw kept first second value index base r
         (now (storage .exit)) (now (keys .exit)) ⌝ }
 {
     if first < 16384 {

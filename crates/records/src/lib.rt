@@ -1,10 +1,10 @@
-// The record: its fields read and written. Each contract equates with machine's Record and Answers.
+// The record, of 200 bytes or 208: its fields read and written. Each contract equates with machine's Record and Answers.
 ghost use mathlib.Core.Path.{_≡_};
 ghost use Prim.Native.Nat.{_+_, _≤_, _<_};
 ghost use lib.ListN.{length, getD, set};
 ghost use lib.Seq.{sets};
-ghost use Rattle.machine.specs.Words.{wordsAt, wordsBytes};
-ghost use Rattle.machine.specs.Record.{guestOf, cpuOf, withCpu, withResults};
+ghost use Rattle.machine.specs.Words.{wordsAt};
+ghost use Rattle.machine.specs.Record.{isSystem370, registerBytes, guestOf, cpuOf, withCpu, withResults, requestOf, residueOf, withInterval};
 ghost use Rattle.machine.specs.Psw.{control};
 ghost use Rattle.machine.specs.Answers.{results, reasonResults, endResults};
 use machine::Cpu;
@@ -24,12 +24,18 @@ const CONTROL: usize = 72;
 
 const GENERAL: usize = 136;
 
+// The interval timer's request byte and residue, in the longer record.
+const REQUEST: usize = 200;
+
+const RESIDUE: usize = 204;
+
 // The fields that no unit changes.
 pub fn guest_of(r: &[u8]) -> Guest
-    requires { ⌜ length (now r) ≡ 200 ⌝ }
+    requires { ⌜ 200 ≤ length (now r) ⌝ }
     ensures { λ g. ⌜ g ≡ guestOf (now (r .entry)) ⌝ }
 {
     Guest {
+        version: r[2],
         interventions: r[3],
         mode: r[4],
         interceptions: r[5],
@@ -60,20 +66,29 @@ fn registers_at(r: &[u8], a: usize) -> Registers
     Registers { words }
 }
 
+// Whether the guest is a System/370 one: mode bits 4-5 are 01.
+fn system370_of(r: &[u8]) -> bool
+    requires { ⌜ 200 ≤ length (now r) ⌝ }
+    ensures { λ x. ⌜ x ≡ isSystem370 (now (r .entry)) ⌝ }
+{
+    r[4] / 4 % 4 == 1
+}
+
 // The PSW.
 pub fn psw_of(r: &[u8]) -> Psw
-    requires { ⌜ length (now r) ≡ 200 ⌝ }
+    requires { ⌜ 200 ≤ length (now r) ⌝ }
     ensures { λ psw. ⌜ psw ≡ (cpuOf (now (r .entry))) .psw ⌝ }
 {
     Psw {
         left: words::word_at(r, PSW),
         right: words::word_at(r, PSW + 4),
+        system370: system370_of(r),
     }
 }
 
 // The control registers, of which only 0 and 1 are read: addressing looks at no other.
 pub fn table_controls(r: &[u8]) -> Registers
-    requires { ⌜ length (now r) ≡ 200 ⌝ }
+    requires { ⌜ 200 ≤ length (now r) ⌝ }
     ensures { λ x. ⌜ (getD (x .words) 0 0 ≡ control (cpuOf (now (r .entry))) 0) × (getD (x .words) 1 0 ≡ control (cpuOf (now (r .entry))) 1) ⌝ }
 {
     let mut words = [0; 16];
@@ -84,13 +99,14 @@ pub fn table_controls(r: &[u8]) -> Registers
 
 // The fields that units change.
 pub fn cpu_of(r: &[u8]) -> Cpu
-    requires { ⌜ length (now r) ≡ 200 ⌝ }
+    requires { ⌜ 200 ≤ length (now r) ⌝ }
     ensures { λ cpu. ⌜ cpu ≡ cpuOf (now (r .entry)) ⌝ }
 {
     Cpu {
         psw: Psw {
             left: words::word_at(r, PSW),
             right: words::word_at(r, PSW + 4),
+            system370: system370_of(r),
         },
         timer: words::double_at(r, TIMER),
         control: registers_at(r, CONTROL),
@@ -101,7 +117,7 @@ pub fn cpu_of(r: &[u8]) -> Cpu
 // Sixteen words, written from an address on.
 fn put_registers(r: &mut [u8], a: usize, x: Registers)
     requires { ⌜ a + 64 ≤ length (now r) ⌝ }
-    ensures { λ _. ⌜ now (r .exit) ≡ sets (now (r .entry)) a (wordsBytes (x .words)) ⌝ }
+    ensures { λ _. ⌜ now (r .exit) ≡ sets (now (r .entry)) a (registerBytes (x .words)) ⌝ }
 {
     let words = x.words;
     let mut i = 0;
@@ -113,7 +129,7 @@ fn put_registers(r: &mut [u8], a: usize, x: Registers)
 
 // The fields that units change, put into the record.
 pub fn put_cpu(r: &mut [u8], cpu: Cpu)
-    requires { ⌜ length (now r) ≡ 200 ⌝ }
+    requires { ⌜ 200 ≤ length (now r) ⌝ }
     ensures { λ _. ⌜ now (r .exit) ≡ withCpu cpu (now (r .entry)) ⌝ }
 {
     words::put_word(r, PSW, cpu.psw.left);
@@ -131,9 +147,34 @@ fn put_byte(r: &mut [u8], a: usize, x: u8)
     r[a] = x;
 }
 
+// The interval timer's request byte, whose bit 0 is T.
+pub fn request_of(r: &[u8]) -> u8
+    requires { ⌜ 208 ≤ length (now r) ⌝ }
+    ensures { λ x. ⌜ x ≡ requestOf (now (r .entry)) ⌝ }
+{
+    r[REQUEST]
+}
+
+// The interval timer's residue.
+pub fn residue_of(r: &[u8]) -> u32
+    requires { ⌜ 208 ≤ length (now r) ⌝ }
+    ensures { λ x. ⌜ x ≡ residueOf (now (r .entry)) ⌝ }
+{
+    words::word_at(r, RESIDUE)
+}
+
+// The interval timer's fields, put into the record.
+pub fn put_interval(r: &mut [u8], request: u8, residue: u32)
+    requires { ⌜ 208 ≤ length (now r) ⌝ }
+    ensures { λ _. ⌜ now (r .exit) ≡ withInterval request residue (now (r .entry)) ⌝ }
+{
+    put_byte(r, REQUEST, request);
+    words::put_word(r, RESIDUE, residue);
+}
+
 // Bytes 52-65: interception code, ILC, interruption code, address and instruction text.
 fn put_fields(r: &mut [u8], code: u8, interruption: u16, address: u32, t: Text)
-    requires { ⌜ length (now r) ≡ 200 ⌝ }
+    requires { ⌜ 200 ≤ length (now r) ⌝ }
     ensures { λ _. ⌜ now (r .exit) ≡ withResults (results code interruption address t) (now (r .entry)) ⌝ }
 {
     put_byte(r, 52, code);
@@ -147,7 +188,7 @@ fn put_fields(r: &mut [u8], code: u8, interruption: u16, address: u32, t: Text)
 
 // The results of an interception without instruction text.
 fn put_plain(r: &mut [u8], code: u8, interruption: u16, ilc: u8, address: u32)
-    requires { ⌜ length (now r) ≡ 200 ⌝ }
+    requires { ⌜ 200 ≤ length (now r) ⌝ }
     ensures { λ _. ⌜ now (r .exit) ≡ withResults (results code interruption address (record { ilc = ilc; first = 0; second = 0; third = 0 })) (now (r .entry)) ⌝ }
 {
     let t = Text {
@@ -161,7 +202,7 @@ fn put_plain(r: &mut [u8], code: u8, interruption: u16, ilc: u8, address: u32)
 
 // The results of an interception.
 fn put_reason(r: &mut [u8], reason: Reason)
-    requires { ⌜ length (now r) ≡ 200 ⌝ }
+    requires { ⌜ 200 ≤ length (now r) ⌝ }
     ensures { λ _. ⌜ now (r .exit) ≡ withResults (reasonResults reason) (now (r .entry)) ⌝ }
 {
     match reason {
@@ -179,7 +220,7 @@ fn put_reason(r: &mut [u8], reason: Reason)
 
 // The results of a run's end, put into the record.
 pub fn put_results(r: &mut [u8], end: End)
-    requires { ⌜ length (now r) ≡ 200 ⌝ }
+    requires { ⌜ 200 ≤ length (now r) ⌝ }
     ensures { λ _. ⌜ now (r .exit) ≡ withResults (endResults end) (now (r .entry)) ⌝ }
 {
     match end {

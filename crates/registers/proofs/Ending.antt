@@ -1,6 +1,6 @@
 -- How the instructions with no operand in storage end.
 -- Assumes nothing.
-use Prim.Native.Nat.{ℕ, _+_, _*_, _%_, _≤_}
+use Prim.Native.Nat.{ℕ, _+_, _*_, _%_, _≤_, _<_}
 use native.Mathlib.Nat.{div-one}
 use native.Mathlib.Omega.{arith}
 use mathlib.Core.Path.{_≡_, refl, ap, sym, subst, _∙_}
@@ -12,17 +12,18 @@ use Rattle.machine.specs.declared.Psw.{Psw}
 use Rattle.machine.specs.declared.Text.{Text}
 use lib.Dec.{eqb}
 use Rattle.machine.specs.Words.{bits}
-use Rattle.machine.specs.Psw.{conditionCode, overflowEnabled, wrap, withPsw, withGeneral, withAddress, advanced, withConditionCode, general}
+use Rattle.machine.specs.Psw.{basicControl, conditionCode, overflowEnabled, wrap, withPsw, withGeneral, withAddress, advanced, withConditionCode, general}
 use Rattle.machine.specs.Failures.{fixedPointOverflow, exceptionOf}
 use Rattle.machine.specs.Host.{Host}
 use Rattle.machine.specs.Outcomes.{Progress}
-use Rattle.machine.specs.Interruptions.{supervisorCallAreas, codeFields, interrupt, exception}
+use Rattle.machine.specs.Interruptions.{supervisorCallAreas, codeFields, fieldsBeside, interrupt, exception}
 use Rattle.machine.specs.Execute.{r1, r2, next, finish, sumCode, withSum, summed, branch, supervisorCall}
+use Rattle.machine.proofs.Tests.{on-either-arm}
 use Rattle.execute.specs.declared.Done.{Done}
 use Rattle.execute.specs.declared.Event.the-variants as event
 use Rattle.execute.specs.declared.Frames.{Frames}
 use Rattle.execute.specs.After.{leftBy, markText, Standing, Left, codeBytes}
-use Rattle.execute.proofs.Exceptions.{code-word}
+use Rattle.execute.proofs.Exceptions.{code-word, code-of-word}
 use Rattle.execute.proofs.Reaching.{past-it, left-finished}
 use Rattle.adder.proofs.Sums.{coded-overflow, sum-state}
 
@@ -30,6 +31,11 @@ use Rattle.adder.proofs.Sums.{coded-overflow, sum-state}
 past-general : (c : Cpu) (i value n : ℕ) → advanced (withGeneral c i value) n .psw ≡ advanced c n .psw
 unfolding advanced withAddress withPsw withGeneral wrap
 past-general c i value n = refl
+
+-- a condition code has two bits
+pub small-code : (c : Cpu) → conditionCode c < 4
+small-code c =
+    on-either-arm (λ n. n < 4) (basicControl c) {u = bits 32 2 3 (c .psw .right)} {v = bits 32 18 19 (c .psw .left)} (omega arith) (omega arith)
 
 -- a sum is a program exception, by the condition code that the code has
 pub sum-interrupts : (c : Cpu) (sum : ℕ) (overflow : Bool) (code : ℕ) → code ≡ conditionCode (withConditionCode c (sumCode sum overflow))
@@ -113,13 +119,15 @@ module _ (h : Host) (x : Progress) {g : Guest} {clock : ℕ} {c : Cpu} {text : T
   -- SUPERVISOR CALL is an interruption behind the instruction
   pub supervisor-called : text .ilc ≤ 3 → (d : Done) {storage keys : List ℕ} (psw : Psw) (after : Cpu) → psw ≡ advanced c (text .ilc) .psw
       → after ≡ withPsw c psw
-      → Left h g c (interrupt x after supervisorCallAreas (codeBytes (text .ilc * 131072 + text .first % 256) 0 false)) d storage keys
+      → (let word = text .ilc * 131072 + text .first % 256 in
+      Left h g c (interrupt x after supervisorCallAreas (word % 65536) (fieldsBeside after (codeBytes word 0 false))) d storage keys)
       → Left h g c (supervisorCall x) d storage keys
   unfolding supervisorCall
   supervisor-called short d {storage} {keys} psw after moved set left =
-      subst (λ o. Left h g c o d storage keys)
-      (λ i. interrupt x
-      ((set ∙ past-it h x standing c psw moved ∙ ap (next x) (sym (standing .ofCpu))) i)
-      supervisorCallAreas
-      ((code-word (text .ilc) (text .first % 256) short (omega arith) ∙ ap (λ n. codeFields (text .ilc) (n % 256)) (sym (div-one (text .first))) ∙ ap (λ u. codeFields (u .ilc) (bits 16 8 15 (u .first))) (sym (standing .ofText))) i))
-      left
+      let number : text .first % 256 ≡ bits 16 8 15 (text .first) = ap (λ n. n % 256) (sym (div-one (text .first))) in
+      let to = set ∙ past-it h x standing c psw moved ∙ ap (next x) (sym (standing .ofCpu)) in
+      let code = code-of-word (text .ilc) (text .first % 256) (omega arith) ∙ number ∙ ap (λ u. bits 16 8 15 (u .first)) (sym (standing .ofText)) in
+      let fields =
+      code-word (text .ilc) (text .first % 256) short (omega arith) ∙ ap (codeFields (text .ilc)) number
+      ∙ ap (λ u. codeFields (u .ilc) (bits 16 8 15 (u .first))) (sym (standing .ofText)) in
+      subst (λ o. Left h g c o d storage keys) (λ i. interrupt x (to i) supervisorCallAreas (code i) (fieldsBeside (to i) (fields i))) left

@@ -222,6 +222,16 @@ pub fn supervisor_call(
         long: false,
     };
     let psw = cpu::advanced(cpu.psw, text.ilc as u32);
-    let done = execute::with_psw(cpu, psw);
-    execute::interrupt(storage, keys, designation, guest, cpu.psw, done, i, t)
+    let took = execute::take(
+        storage,
+        keys,
+        designation,
+        guest.prefix,
+        guest.origin,
+        guest.extent,
+        psw,
+        i,
+        t,
+    );
+    execute::interrupted(cpu.psw, execute::with_psw(cpu, psw), took)
 }

@@ -2,8 +2,8 @@
 -- Assumes nothing.
 use Prim.Native.Nat.{ℕ, zero, suc, _+_, _-_, _^_, _≤_, _<_}
 use native.Mathlib.Omega.{arith}
-use mathlib.Core.Path.{_≡_, refl, ap, sym, subst, _∙_}
-use mathlib.Core.Bool.{true, false}
+use mathlib.Core.Path.{_≡_, refl, ap, sym, _∙_}
+use mathlib.Core.Bool.{Bool, true, false, cond, not, _&&_, false≢true}
 use mathlib.Core.List.{List, [], _∷_}
 use lib.ListN.{length, length-set, getD, set}
 use Rattle.machine.specs.declared.Cpu.{Cpu}
@@ -11,60 +11,106 @@ use Rattle.machine.specs.declared.End.{End}
 use Rattle.machine.specs.declared.End.the-variants as end
 use Rattle.machine.specs.declared.Guest.{Guest}
 use Rattle.machine.specs.declared.Numbers.{Numbers}
-use Rattle.machine.specs.Record.{guestOf, withCpu}
+use Rattle.machine.specs.declared.Reason.{Reason}
+use Rattle.machine.specs.Words.{bit}
+use Rattle.machine.specs.Record.{recordLength, system370Mode, isSystem370, guestOf, cpuOf, withCpu, requestOf, withRequest}
+use Rattle.machine.specs.Interval.{active, pending, withoutT}
+use Rattle.machine.specs.Psw.{withTimer}
 use Rattle.machine.specs.Time.{clockAfter, charged}
 use Rattle.machine.specs.Host.{Host, host, backing, view, stored}
 use Rattle.machine.specs.Outcomes.{Outcome, completed, intercepted, faulted}
 use Rattle.machine.specs.Units.{unit}
-use Rattle.machine.specs.Run.{Machine, Ended as Run, hostOf, unitFrom, behindOf, markedBy, afterUnit, afterInterception, stepOf, step, counted, onward, run}
+use Rattle.machine.specs.Run.{Machine, hostOf, requestedBy, unitFrom, behindOf, markedBy, afterUnit, afterInterception, clearsT, answered, goes, ends, ticked, stepOf, step, run}
 use Rattle.machine.proofs.Laws.{guest-of-withCpu}
 use Rattle.machine.specs.Record.{Sixteen, Bounded}
 use Rattle.machine.proofs.Lens.{cpu-of-withCpu, withCpu-withCpu}
 use Rattle.machine.proofs.Runs.{more}
+use Rattle.machine.proofs.Timer.{asked-for}
 use Rattle.execute.proofs.Reaching.{not-both}
 use Rattle.execute.specs.declared.Done.{Done}
 use Rattle.execute.specs.declared.Event.{Event}
 use Rattle.execute.specs.After.{eventOf, cpuAfter, storageAfter, keysAfter, leftBy, Left}
-use Rattle.run.specs.declared.Ended.{Ended}
-use Rattle.run.specs.Running.{isCompleted, endOf, machineAt, Ends, Remains}
+use Rattle.run.specs.Running.{isCompleted, endOf, ofMode, ofXa, plainAt, Remains}
 
-suc-is-one-more : (u : ℕ) → suc u ≡ 1 + u
-suc-is-one-more u = omega arith
+-- the record does not tell the architectures apart but by the mode
+pub record-of-xa : (c : Cpu) (r : List ℕ) → withCpu (ofXa c) r ≡ withCpu c r
+unfolding withCpu
+record-of-xa c r = refl
 
--- how the run ends that stops here
-abbrev stopped : Event → Cpu → Ended
-stopped ended c = record { end = endOf ended; cpu = c; units = 0 }
+-- a charge leaves the PSW as it is
+pub charged-mode : (b : Bool) (c : Cpu) (time : ℕ) → (ofXa (charged (ofMode b c) time) ≡ ofXa (charged c time)) × ((charged (ofMode b c) time) .psw .system370 ≡ b)
+unfolding charged withTimer
+charged-mode b c time = (refl, refl)
 
-module _ (n : Numbers) (d : List ℕ) {g : Guest} (long : length d ≡ 200) (here : guestOf d ≡ g) (c : Cpu) (bounded : Bounded c) (clock : ℕ)
-    (storage keys : List ℕ) where
+-- a state of this architecture
+pub of-mode : (b : Bool) (c : Cpu) → c .psw .system370 ≡ b → ofMode b c ≡ c
+of-mode b c same = λ i. record {
+  psw = record { left = c .psw .left; right = c .psw .right; system370 = sym same i };
+  timer = c .timer;
+  control = c .control;
+  general = c .general;
+}
+
+-- the interval timer of a 370-XA guest is not active
+pub never-active : (g : Guest) → system370Mode (g .mode) ≡ false → active g ≡ false
+unfolding active
+never-active g xa = ap (λ b. b && not (bit 8 7 (g .mode))) xa
+
+module _ (n : Numbers) (d : List ℕ) {g : Guest} (long : recordLength ≤ length d) (here : guestOf d ≡ g) (off : active g ≡ false)
+    (c : Cpu) (bounded : Bounded c) (kind : c .psw .system370 ≡ system370Mode (g .mode)) (clock : ℕ) (storage keys : List ℕ) where
   abbrev h : Host
   h = host (n .designation) storage keys
 
   abbrev m : Machine
-  m = machineAt d c clock storage keys
+  m = plainAt d c clock storage keys
 
   guest-here : guestOf (withCpu c d) ≡ g
   guest-here = guest-of-withCpu c d ∙ here
 
-  unit-here : unitFrom n m ≡ unit g clock (view g h) c
+  idle : active (guestOf (withCpu c d)) ≡ false
+  idle = ap active guest-here ∙ off
+
+  unasked : requestedBy (withCpu c d) ≡ false
+  unfolding requestedBy
+  unasked = ap (λ b. b && pending (requestOf (withCpu c d))) idle
+
+  own-mode : isSystem370 d ≡ system370Mode (g .mode)
+  unfolding guestOf
+  own-mode = ap (λ k. system370Mode (k .mode)) here
+
+  cpu-here : cpuOf (withCpu c d) ≡ c
+  cpu-here = cpu-of-withCpu c d long bounded (kind ∙ sym own-mode)
+
+  unit-here : unitFrom n m ≡ unit g clock false (view g h) c
   unfolding unitFrom hostOf
-  unit-here = λ i. unit (guest-here i) clock (view (guest-here i) h) (cpu-of-withCpu c d long bounded i)
+  unit-here = λ i. unit (guest-here i) clock (unasked i) (view (guest-here i) h) (cpu-here i)
+
+  -- the interval timer does nothing
+  stays : (after : Machine) → ticked n m after ≡ goes after
+  unfolding ticked
+  stays after = rw idle
 
   module _ (to : Cpu) (lasting : Bounded to) (s k : List ℕ) where
     -- the state put into the record a second time
-    again : (j : Cpu) → j ≡ to → withCpu j (withCpu c d) ≡ withCpu to d
+    again : (j : Cpu) → ofXa j ≡ ofXa to → withCpu j (withCpu c d) ≡ withCpu to d
     again j same =
-        ap (λ j. withCpu j (withCpu c d)) same
+        sym (record-of-xa j (withCpu c d)) ∙ ap (λ k. withCpu k (withCpu c d)) same ∙ record-of-xa to (withCpu c d)
         ∙ withCpu-withCpu c to d (bounded .control .long ∙ sym (lasting .control .long)) (bounded .general .long ∙ sym (lasting .general .long))
 
-    module _ (e : Event) (b : ℕ) where
-      -- a completed unit, and the rest of the run behind it
-      goes-on : (o : Outcome) → e ≡ eventOf o → isCompleted e ≡ true → to ≡ charged (cpuAfter c o) (n .time)
+    -- no exit clears the request of a timer that is not active
+    unanswered : (r : Reason) (c′ : Cpu) → unitFrom n m ≡ intercepted r c′ → ofXa c′ ≡ ofXa to → (b : Bool) → clearsT r ≡ b
+        → cond b (withRequest (withoutT (requestOf (withCpu c′ (withCpu c d)))) (withCpu c′ (withCpu c d))) (withCpu c′ (withCpu c d)) ≡ withCpu to d
+    unanswered r c′ is state true clears = absurd (false≢true (sym unasked ∙ asked-for n m r c′ is clears))
+    unanswered r c′ is state false other = again c′ state
+
+    module _ (e : Event) where
+      -- a completed unit
+      goes-on : (o : Outcome) → e ≡ eventOf o → isCompleted e ≡ true → ofXa to ≡ ofXa (charged (cpuAfter c o) (n .time))
           → s ≡ storageAfter (backing g h) o storage → k ≡ keysAfter (backing g h) o keys
-          → onward (run b n) (stepOf n m o) ≡ more 1 (run b n (machineAt d to (clockAfter clock (n .time)) s k))
-      unfolding eventOf isCompleted cpuAfter storageAfter keysAfter onward stepOf counted afterUnit behindOf hostOf
+          → stepOf n m o ≡ goes (plainAt d to (clockAfter clock (n .time)) s k)
+      unfolding eventOf isCompleted cpuAfter storageAfter keysAfter stepOf afterUnit behindOf hostOf
       goes-on (completed c′ effects) ended whole state bytes marks =
-          let same : afterUnit n m c′ effects ≡ machineAt d to (clockAfter clock (n .time)) s k =
+          let same : afterUnit n m c′ effects ≡ plainAt d to (clockAfter clock (n .time)) s k =
           λ i. record {
             description = again (charged c′ (n .time)) (sym state) i;
             clock = clockAfter clock (n .time);
@@ -72,33 +118,41 @@ module _ (n : Numbers) (d : List ℕ) {g : Guest} (long : length d ≡ 200) (her
             keys = ((λ j. markedBy (backing (guest-here j) h) effects keys) ∙ sym marks) i;
           }
           in
-          ap counted (ap (run b n) same) ∙ (λ i. record {
-            end = run b n (machineAt d to (clockAfter clock (n .time)) s k) .end;
-            units = suc-is-one-more (run b n (machineAt d to (clockAfter clock (n .time)) s k) .units) i;
-            machine = run b n (machineAt d to (clockAfter clock (n .time)) s k) .machine;
-          })
+          stays (afterUnit n m c′ effects) ∙ ap goes same
       goes-on (intercepted r c′) ended whole state bytes marks = not-both whole (ap isCompleted ended)
       goes-on (faulted f) ended whole state bytes marks = not-both whole (ap isCompleted ended)
 
       -- an exit
-      stops-at : (o : Outcome) → e ≡ eventOf o → isCompleted e ≡ false → to ≡ cpuAfter c o → s ≡ storageAfter (backing g h) o storage → k ≡ keysAfter (backing g h) o keys
-          → Ends (onward (run b n) (stepOf n m o)) d (stopped e to) s k
-      unfolding eventOf isCompleted endOf cpuAfter storageAfter keysAfter onward stepOf afterInterception
-      stops-at (completed c′ effects) ended exits state bytes marks = not-both (ap isCompleted ended) exits
-      stops-at (intercepted r c′) ended exits state bytes marks = record {
-        end = sym (ap endOf ended);
-        units = refl;
-        description = again c′ (sym state);
-        bytes = sym bytes;
-        marks = sym marks;
-      }
-      stops-at (faulted f) ended exits state bytes marks = record {
-        end = sym (ap endOf ended);
-        units = refl;
-        description = ap (λ j. withCpu j d) (sym state);
-        bytes = sym bytes;
-        marks = sym marks;
-      }
+      stops-at : (o : Outcome) → unitFrom n m ≡ o → e ≡ eventOf o → isCompleted e ≡ false → ofXa to ≡ ofXa (cpuAfter c o) → s ≡ storageAfter (backing g h) o storage → k ≡ keysAfter (backing g h) o keys
+          → stepOf n m o ≡ ends (endOf e) (plainAt d to clock s k)
+      unfolding eventOf isCompleted endOf cpuAfter storageAfter keysAfter stepOf answered afterInterception
+      stops-at (completed c′ effects) is ended exits state bytes marks = not-both (ap isCompleted ended) exits
+      stops-at (intercepted r c′) is ended exits state bytes marks = λ i. ends (ap endOf (sym ended) i) (record {
+        description = unanswered r c′ is (sym state) (clearsT r) refl i;
+        clock = clock;
+        storage = sym bytes i;
+        keys = sym marks i;
+      })
+      stops-at (faulted f) is ended exits state bytes marks = λ i. ends (ap endOf (sym ended) i) (record {
+        description = (sym (record-of-xa c d) ∙ ap (λ j. withCpu j d) (sym state) ∙ record-of-xa to d) i;
+        clock = clock;
+        storage = sym bytes i;
+        keys = sym marks i;
+      })
+
+    module _ (done : Done) (left : Left h g c (unit g clock false (view g h) c) done s k) where
+      pub off-goes : isCompleted (done .event) ≡ true → ofXa to ≡ ofXa (charged (leftBy c done) (n .time))
+          → step n m ≡ goes (plainAt d to (clockAfter clock (n .time)) s k)
+      unfolding step
+      off-goes whole state =
+          ap (stepOf n m) unit-here
+          ∙ goes-on (done .event) (unit g clock false (view g h) c) (left .event) whole (state ∙ ap (λ j. ofXa (charged j (n .time))) (left .cpu)) (left .bytes) (left .marks)
+
+      pub off-stops : isCompleted (done .event) ≡ false → ofXa to ≡ ofXa (leftBy c done) → step n m ≡ ends (endOf (done .event)) (plainAt d to clock s k)
+      unfolding step
+      off-stops exits state =
+          ap (stepOf n m) unit-here
+          ∙ stops-at (done .event) (unit g clock false (view g h) c) unit-here (left .event) exits (state ∙ ap ofXa (left .cpu)) (left .bytes) (left .marks)
 
 pub remains-start : (n : Numbers) (budget : ℕ) (start : Machine) → Remains n budget start 0 start
 remains-start n budget start =
@@ -114,96 +168,6 @@ remains-start n budget start =
 
     all : budget ≡ budget - 0
     all = omega arith
-
--- units counted on top
-ends-more : (u : ℕ) (e : Run) {d : List ℕ} (r : Ended) {units : ℕ} {s k : List ℕ} → Ends e d (record { end = r .end; cpu = r .cpu; units = units }) s k
-    → u + units ≡ r .units → Ends (more u e) d r s k
-ends-more u e r ends sum = record {
-  end = ends .end;
-  units = ap (λ v. u + v) (ends .units) ∙ sum;
-  description = ends .description;
-  bytes = ends .bytes;
-  marks = ends .marks;
-}
-
-module _ (n : Numbers) (d : List ℕ) {g : Guest} (long : length d ≡ 200) (here : guestOf d ≡ g) (budget : ℕ) (start : Machine) (units : ℕ) (c : Cpu) (clock : ℕ)
-    (storage keys : List ℕ) where
-  -- the budget is used
-  pub budget-ends : units ≤ budget → budget ≤ units → Remains n budget start units (machineAt d c clock storage keys)
-      → Ends (run budget n start) d (record { end = end.BudgetUsed; cpu = c; units = units }) storage keys
-  unfolding run
-  budget-ends within used remains =
-      subst (λ e. Ends e d (record { end = end.BudgetUsed; cpu = c; units = units }) storage keys)
-      (sym (remains ∙ ap (λ b. more units (run b n (machineAt d c clock storage keys))) none))
-      (record { end = refl; units = omega arith; description = refl; bytes = refl; marks = refl })
-    where
-      none : budget - units ≡ 0
-      none = omega arith
-
-  module _ (bounded : Bounded c) {designation : ℕ} (designated : n .designation ≡ designation) (done : Done) (s k : List ℕ)
-      (left : Left (host designation storage keys) g c (unit g clock (view g (host designation storage keys)) c) done s k) (more-left : suc units ≤ budget)
-      (remains : Remains n budget start units (machineAt d c clock storage keys)) where
-    left-here : Left (host (n .designation) storage keys) g c (unit g clock (view g (host (n .designation) storage keys)) c) done s k
-    left-here = subst (λ u. Left (host u storage keys) g c (unit g clock (view g (host u storage keys)) c) done s k) (sym designated) left
-
-    one-left : budget - units ≡ suc (budget - suc units)
-    one-left = omega arith
-
-    here-again : Remains n budget start units (machineAt d c clock storage keys)
-        → run budget n start ≡ more units (run (suc (budget - suc units)) n (machineAt d c clock storage keys))
-    here-again remains = remains ∙ ap (λ b. more units (run b n (machineAt d c clock storage keys))) one-left
-
-    unit-first : run (suc (budget - suc units)) n (machineAt d c clock storage keys)
-        ≡ onward (run (budget - suc units) n) (stepOf n (machineAt d c clock storage keys) (unit g clock (view g (host (n .designation) storage keys)) c))
-    unfolding run step
-    unit-first = ap (λ o. onward (run (budget - suc units) n) (stepOf n (machineAt d c clock storage keys) o)) (unit-here n d long here c bounded clock storage keys)
-
-    -- a completed unit
-    pub one-more : isCompleted (done .event) ≡ true → (to : Cpu) → Bounded to → to ≡ charged (leftBy c done) (n .time) → (later : ℕ) → later ≡ clockAfter clock (n .time)
-        → Remains n budget start (units + 1) (machineAt d to later s k)
-    one-more whole to lasting state later advanced =
-        here-again remains
-        ∙ ap (more units)
-        (unit-first
-        ∙ goes-on n d long here c bounded clock storage keys to lasting s k (done .event) (budget - suc units) _ (left-here .event) whole
-        (state ∙ ap (λ j. charged j (n .time)) (left-here .cpu)) (left-here .bytes) (left-here .marks))
-        ∙ (λ i. record {
-          end = rest .end;
-          units = one-counted (rest .units) i;
-          machine = rest .machine;
-        })
-        ∙ (λ i. more (units + 1) (run (one-fewer i) n (machineAt d to (sym advanced i) s k)))
-      where
-        one-fewer : budget - suc units ≡ budget - (units + 1)
-        one-fewer = omega arith
-
-        rest : Run
-        rest = run (budget - suc units) n (machineAt d to (clockAfter clock (n .time)) s k)
-
-        one-counted : (v : ℕ) → units + (1 + v) ≡ units + 1 + v
-        one-counted v = omega arith
-
-    -- an exit
-    pub exit-ends : isCompleted (done .event) ≡ false → (to : Cpu) → Bounded to → to ≡ leftBy c done
-        → Ends (run budget n start) d (record { end = endOf (done .event); cpu = to; units = units }) s k
-    exit-ends exits to lasting state =
-        subst (λ e. Ends e d (record { end = endOf (done .event); cpu = to; units = units }) s k) (sym (here-again remains))
-        (ends-more units _ (record { end = endOf (done .event); cpu = to; units = units })
-        (subst (λ e. Ends e d (stopped (done .event) to) s k) (sym unit-first)
-        (stops-at n d long here c bounded clock storage keys to lasting s k (done .event) (budget - suc units) _ (left-here .event) exits (state ∙ left-here .cpu)
-        (left-here .bytes) (left-here .marks)))
-        (omega arith))
-
--- the end of an exit, by another name
-pub exit-ended : (d : List ℕ) {e : Run} {c : Cpu} {units : ℕ} {how why : End} {s k : List ℕ} → Ends e d (record { end = how; cpu = c; units = units }) s k → why ≡ how
-    → Ends e d (record { end = why; cpu = c; units = units }) s k
-exit-ended d ends same = record {
-  end = ends .end ∙ sym same;
-  units = ends .units;
-  description = ends .description;
-  bytes = ends .bytes;
-  marks = ends .marks;
-}
 
 -- one of sixteen words, set
 pub sixteen-set : (l : List ℕ) (i v : ℕ) → Sixteen l → v < 2 ^ 32 → Sixteen (set l i v)

@@ -1,20 +1,21 @@
 -- A streak of units on kept pages, unit by unit.
 -- Assumes nothing.
-use Prim.Native.Nat.{ℕ, _+_, _-_, _/_, _<_}
+use Prim.Native.Nat.{ℕ, _+_, _-_, _/_, _≤_, _<_}
 use native.Mathlib.Omega.{arith}
 use mathlib.Core.Path.{_≡_, refl, ap, sym, subst, _∙_}
+use mathlib.Core.Bool.{false}
 use mathlib.Core.List.{List}
 use lib.ListN.{length, set}
 use Rattle.machine.specs.declared.Cpu.{Cpu}
 use Rattle.machine.specs.declared.Guest.{Guest}
 use Rattle.machine.specs.declared.Numbers.{Numbers}
 use Rattle.machine.specs.declared.Psw.{Psw}
-use Rattle.machine.specs.Record.{guestOf}
+use Rattle.machine.specs.Record.{recordLength, system370Mode, guestOf}
 use Rattle.machine.specs.Psw.{withTimer}
 use Rattle.machine.specs.Time.{clockAfter, timerAfter, charged}
 use Rattle.machine.specs.Host.{host, view}
 use Rattle.machine.specs.Units.{unit}
-use Rattle.machine.specs.Run.{Machine, Ended as Run, run}
+use Rattle.machine.specs.Run.{Machine, goes, Ended as Run, run}
 use Rattle.machine.specs.Record.{Bounded}
 use Rattle.machine.proofs.Runs.{more}
 use Rattle.execute.specs.After.{leftBy, Left}
@@ -23,14 +24,18 @@ use Rattle.pages.specs.Keeping.{Holds, Inside}
 use Rattle.pages.proofs.Holding.{holds-alike, holds-marked, holds-state}
 use Rattle.quick.specs.declared.Quick.{Quick}
 use Rattle.quick.specs.Stepping.{doneOf, Spares}
-use Rattle.run.specs.Running.{isCompleted, machineAt, Remains}
-use Rattle.run.proofs.Steps.{one-more}
+use Rattle.run.specs.Running.{isCompleted, ofXa, plainAt, Remains}
+use Rattle.run.proofs.Steps.{never-active, off-goes}
+use Rattle.run.proofs.Remaining.{one-more}
 
 -- the pages are kept behind a unit that spares them
 pub kept-on : (guard : List ℕ) (g : Guest) (designation : ℕ) (s k s′ k′ : List ℕ) (c later : Cpu) (kept : Kept) (q : Quick) → Spares guard s k (c .psw) q s′ k′
     → later .psw ≡ q .psw → later .control ≡ c .control → Holds guard g (host designation s k) c kept → Holds guard g (host designation s′ k′) later kept
 kept-on guard g designation s k s′ k′ c later kept q spares moved same holds =
-    holds-state guard g (host designation s′ k′) c later kept (ap (λ p. p .left / 16384) moved ∙ spares .state) same
+    holds-state guard g (host designation s′ k′) c later kept (record {
+      left = ap (λ p. p .left / 16384) moved ∙ spares .state .left;
+      system370 = ap (λ p. p .system370) moved ∙ spares .state .system370;
+    }) same
     (holds-marked guard g designation s′ k k′ c kept (spares .marks) (holds-alike guard g designation s s′ k c kept (spares .bytes) holds))
 
 -- and their frames stand where they stood
@@ -51,15 +56,18 @@ pub charged-state : (c : Cpu) (q : Quick) (psw : Psw) (time timer : ℕ) (words 
 unfolding charged leftBy withTimer
 charged-state c q psw time timer words moved later changed = λ i. record { psw = moved i; timer = later i; control = c .control; general = record { words = changed i } }
 
-pub unit-more : (n : Numbers) (d : List ℕ) {g : Guest} → length d ≡ 200 → guestOf d ≡ g → (budget : ℕ) (start : Machine) (units : ℕ) (c : Cpu) (clock : ℕ) (s k : List ℕ)
-    → Bounded c → {designation : ℕ} → n .designation ≡ designation → (q : Quick) (s′ k′ : List ℕ)
-    → Left (host designation s k) g c (unit g clock (view g (host designation s k)) c) (doneOf c q) s′ k′ → units < budget
-    → Remains n budget start units (machineAt d c clock s k) → (to : Cpu) → Bounded to → {time : ℕ} → n .time ≡ time → to ≡ charged (leftBy c (doneOf c q)) time
-    → (later : ℕ) → later ≡ clockAfter clock time → Remains n budget start (units + 1) (machineAt d to later s′ k′)
+pub unit-more : (n : Numbers) (d : List ℕ) {g : Guest} → recordLength ≤ length d → guestOf d ≡ g → system370Mode (g .mode) ≡ false → (budget : ℕ) (start : Machine) (units : ℕ) (c : Cpu) (clock : ℕ) (s k : List ℕ)
+    → Bounded c → c .psw .system370 ≡ false → {designation : ℕ} → n .designation ≡ designation → (q : Quick) (s′ k′ : List ℕ)
+    → Left (host designation s k) g c (unit g clock false (view g (host designation s k)) c) (doneOf c q) s′ k′ → units < budget
+    → Remains n budget start units (plainAt d c clock s k) → (to : Cpu) → Bounded to → {time : ℕ} → n .time ≡ time → to ≡ charged (leftBy c (doneOf c q)) time
+    → (later : ℕ) → later ≡ clockAfter clock time → Remains n budget start (units + 1) (plainAt d to later s′ k′)
 unfolding isCompleted
-unit-more n d long here budget start units c clock s k bounded designated q s′ k′ left more remains to lasting timed state later advanced =
-    one-more n d long here budget start units c clock s k bounded designated (doneOf c q) s′ k′ left more remains refl to lasting
-    (state ∙ ap (charged (leftBy c (doneOf c q))) (sym timed)) later (advanced ∙ ap (clockAfter clock) (sym timed))
+unit-more n d {g} long here xa budget start units c clock s k bounded plain designated q s′ k′ left more remains to lasting timed state later advanced =
+    one-more n budget start units (plainAt d c clock s k) remains more
+    (off-goes n d long here (never-active g xa) c bounded (plain ∙ sym xa) clock s k to lasting s′ k′ (doneOf c q)
+    (subst (λ u. Left (host u s k) g c (unit g clock false (view g (host u s k)) c) (doneOf c q) s′ k′) (sym designated) left) refl
+    (ap ofXa (state ∙ ap (charged (leftBy c (doneOf c q))) (sym timed)))
+    ∙ ap (λ t. goes (plainAt d to t s′ k′)) (ap (clockAfter clock) timed ∙ sym advanced))
 
 -- a streak behind the units before it
 pub streak-more : (n : Numbers) (budget : ℕ) (start here there : Machine) (units more-units : ℕ) → Remains n budget start units here

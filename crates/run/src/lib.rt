@@ -1,36 +1,60 @@
-// The run: units one after the other, with the state, the host clock and the units in hand, and the record out of the loop.
+// The run of a guest: units one after the other, each with the interval timer's tick where the timer is active. State, host clock,
+// units, the timer's request byte and its residue are in hand, and the record is out of the loop.
 ghost use mathlib.Core.Path.{_≡_};
-ghost use mathlib.Core.Bool.{true, false};
+ghost use mathlib.Core.Bool.{true, false, cond, _&&_};
 ghost use Prim.Native.Nat.{ℕ, _≤_, _<_};
 ghost use mathlib.Core.List.{List};
 ghost use lib.ListN.{length, set};
 ghost use Rattle.machine.specs.declared.Numbers.{Numbers};
-ghost use Rattle.machine.specs.Refusals.{framesOf};
+ghost use Rattle.machine.specs.Refusals.{mostTime, framesOf};
+ghost use Rattle.machine.specs.Interval.{active, period, residueAfter, withoutT};
 ghost use Rattle.machine.specs.Time.{charged};
 ghost use Rattle.machine.specs.Host.{Cell};
 ghost use Rattle.machine.specs.Units.{started, instruction, unit};
-ghost use Rattle.machine.specs.Record.{Sixteen, Bounded};
+ghost use Rattle.machine.specs.Run.{clearsT};
+ghost use Rattle.machine.specs.Record.{system370Mode, Sixteen, Bounded};
 ghost use Rattle.storage.specs.Entered.{Entered};
+ghost use Rattle.cpu.specs.Before.{comparatorInterrupts, timerInterrupts, ioRequest, lastTests, externalTests};
 ghost use Rattle.execute.specs.After.{leftBy};
 ghost use Rattle.pages.specs.Keeping.{Inside};
-ghost use Rattle.run.specs.Running.{isCompleted, endOf, Runs, afterStreak, Attempts, Streaks};
-use cpu::Before;
+ghost use Rattle.run.specs.Running.{isCompleted, endOf, ofMode, Runs, afterStreak, Attempts, Streaks, Paced};
+ghost use Rattle.run.specs.Ticking.{requestBehind, dueAt, DueFound, Reaches, isShut, faultEnd, Fallen};
 use execute::Done;
 use execute::Event;
+use interval::Word;
 use machine::Cpu;
 use machine::End;
+use machine::Failure;
 use machine::Guest;
 use machine::Psw;
+use machine::Reason;
 use machine::Registers;
 use pages::Kept;
 use quick::Quick;
 
-// How a run ended, the state that it left, and the units completed.
+// How a run ended, the state that it left, the units completed, and the timer's request byte and residue.
 pub struct Ended {
     pub end: End,
     pub cpu: Cpu,
     pub units: u32,
+    pub request: u8,
+    pub residue: u32,
 }
+
+// What the timer's word does at the end of a unit: nothing, it falls at this host absolute address, or it cannot be stored into.
+enum Due {
+    Later,
+    At(u32),
+    Shut(Failure),
+}
+
+// The timer's request byte and its residue.
+struct Ticked {
+    request: u8,
+    residue: u32,
+}
+
+const INTERVAL: u16 = 0x0080;
 
 // The unit completed.
 fn completed(event: Event) -> bool
@@ -66,11 +90,15 @@ fn general_after(general: Registers, register: u32, value: u32) -> Registers
     general
 }
 
-// The state that a unit left.
+// The state that a unit left. The PSW's architecture is that of the run.
 fn state_after(cpu: Cpu, done: Done) -> Cpu
-    ensures { λ r. ⌜ (r ≡ leftBy cpu done) × Bounded r ⌝ }
+    ensures { λ r. ⌜ (r ≡ ofMode (cpu .psw .system370) (leftBy cpu done)) × Bounded r ⌝ }
 {
-    let psw = done.psw;
+    let psw = Psw {
+        left: done.psw.left,
+        right: done.psw.right,
+        system370: cpu.psw.system370,
+    };
     let control = done.control;
     Cpu {
         psw,
@@ -108,15 +136,87 @@ fn set_register(words: &mut [u32; 16], register: u32, value: u32)
     }
 }
 
-// The list before a unit comes to the instruction.
-fn ready(guest: Guest, clock: u64, psw: Psw, timer: u64, control: Registers) -> bool
-    ensures { λ r. ⌜ (r ≡ true → (v : ℕ → Cell) (c : Cpu) → c .psw ≡ psw → c .timer ≡ timer → c .control ≡ control → unit guest clock v c ≡ instruction (started guest clock v c 1)) ⌝ }
+// Both hold.
+fn both(x: bool, y: bool) -> bool
+    ensures { λ r. ⌜ r ≡ (x && y) ⌝ }
 {
-    match cpu::before_unit(guest, clock, psw, timer, control) {
-        Before::Ends(_) => false,
-        Before::Malformed => false,
-        Before::Instruction => true,
+    if x {
+        return y;
     }
+    false
+}
+
+// Step 4: the clock comparator interrupts, where external interruptions are enabled.
+fn comparator_interrupts(guest: Guest, clock: u64, control: Registers) -> bool
+    ensures { λ r. ⌜ ((c : Cpu) → c .control ≡ control → r ≡ comparatorInterrupts guest clock c) ⌝ }
+{
+    let cr0 = control.words[0];
+    both(cr0 / 2048 % 2 == 1, cpu::comparator_due(guest, clock))
+}
+
+// Step 5: the CPU timer interrupts, where external interruptions are enabled.
+fn timer_interrupts(timer: u64, control: Registers) -> bool
+    ensures { λ r. ⌜ ((c : Cpu) → c .timer ≡ timer → c .control ≡ control → r ≡ timerInterrupts c) ⌝ }
+{
+    let cr0 = control.words[0];
+    both(cr0 / 1024 % 2 == 1, cpu::timer_due(timer))
+}
+
+// Step 7: an I/O interruption is requested and enabled.
+fn io_request(guest: Guest, psw: Psw) -> bool
+    ensures { λ r. ⌜ ((c : Cpu) → c .psw ≡ psw → r ≡ ioRequest guest c) ⌝ }
+{
+    both(guest.interventions / 2 % 2 == 1, cpu::io_enabled(psw))
+}
+
+// Steps 7 and 8 come to the instruction.
+fn last_ready(guest: Guest, psw: Psw) -> bool
+    ensures { λ r. ⌜ (r ≡ true → (clock : ℕ) (v : ℕ → Cell) (c : Cpu) → c .psw ≡ psw → lastTests guest clock v c ≡ instruction (started guest clock v c 1)) ⌝ }
+{
+    if io_request(guest, psw) {
+        return false;
+    }
+    if cpu::waiting(psw) {
+        return false;
+    }
+    true
+}
+
+// The list from step 4 on comes to the instruction, where external interruptions are enabled and the interval timer asks for none.
+fn external_ready(guest: Guest, clock: u64, psw: Psw, timer: u64, control: Registers) -> bool
+    ensures { λ r. ⌜ (r ≡ true → (v : ℕ → Cell) (c : Cpu) → c .psw ≡ psw → c .timer ≡ timer → c .control ≡ control
+        → externalTests guest clock false v c ≡ instruction (started guest clock v c 1)) ⌝ }
+{
+    if comparator_interrupts(guest, clock, control) {
+        return false;
+    }
+    if timer_interrupts(timer, control) {
+        return false;
+    }
+    if guest.interventions % 2 == 1 {
+        return false;
+    }
+    last_ready(guest, psw)
+}
+
+// The list before a unit comes to the instruction. It stands here by itself, and not as what `cpu::before_unit` answers, so that the
+// streak's code has it in place, without what is System/370's alone.
+fn ready(guest: Guest, clock: u64, psw: Psw, timer: u64, control: Registers) -> bool
+    ensures { λ r. ⌜ (r ≡ true → (v : ℕ → Cell) (c : Cpu) → c .psw ≡ psw → c .timer ≡ timer → c .control ≡ control → unit guest clock false v c ≡ instruction (started guest clock v c 1)) ⌝ }
+{
+    if guest.interventions / 4 % 2 == 1 {
+        return false;
+    }
+    if cpu::not_installed(psw) {
+        return false;
+    }
+    if cpu::malformed(psw) {
+        return false;
+    }
+    if cpu::external_enabled(psw) {
+        return external_ready(guest, clock, psw, timer, control);
+    }
+    last_ready(guest, psw)
 }
 
 // A unit on kept pages.
@@ -143,9 +243,15 @@ fn attempt(
 
 // The PSW that a unit on kept pages leaves.
 fn psw_of(q: Quick) -> Psw
+    requires { ⌜ q .psw .system370 ≡ false ⌝ }
     ensures { λ r. ⌜ (r ≡ q .psw) × (r .left < 4294967296) × (r .right < 4294967296) ⌝ }
 {
-    q.psw
+    let psw = q.psw;
+    Psw {
+        left: psw.left,
+        right: psw.right,
+        system370: false,
+    }
 }
 
 // No page can be kept that would help, or enough have been.
@@ -170,7 +276,8 @@ fn run_streak(
     budget: u32,
     start: Cpu,
 ) -> Streak
-    requires { ⌜ Entered guest × (framesOf (now storage) ≤ length (now keys)) × Bounded start ⌝ }
+    requires { ⌜ Entered guest × (framesOf (now storage) ≤ length (now keys)) × Bounded start × (start .psw .system370 ≡ false)
+        × (system370Mode (guest .mode) ≡ false) ⌝ }
     ensures { λ r. ⌜ (r .units ≤ budget) × Streaks designation guest clock time budget start (now (storage .entry)) (now (keys .entry)) r (now (storage .exit)) (now (keys .exit)) ⌝ }
 {
     let control = start.control;
@@ -236,11 +343,15 @@ fn run_streak(
     }
 }
 
-// The state after a streak.
+// The state after a streak. The PSW's architecture is that of the run.
 fn after_streak(cpu: Cpu, streak: Streak) -> Cpu
-    ensures { λ r. ⌜ r ≡ afterStreak cpu streak ⌝ }
+    ensures { λ r. ⌜ r ≡ ofMode (cpu .psw .system370) (afterStreak cpu streak) ⌝ }
 {
-    let psw = streak.psw;
+    let psw = Psw {
+        left: streak.psw.left,
+        right: streak.psw.right,
+        system370: cpu.psw.system370,
+    };
     let general = streak.general;
     let control = cpu.control;
     Cpu {
@@ -279,7 +390,17 @@ fn pace_after(pace: Pace, units: u32) -> Pace {
     }
 }
 
-// A streak, or none where there is a wait.
+// No streak now: there is a wait, or the guest is a System/370 one.
+fn idle(system370: bool, wait: u32) -> bool
+    ensures { λ r. ⌜ (r ≡ false → system370 ≡ false) ⌝ }
+{
+    if system370 {
+        return true;
+    }
+    wait > 0
+}
+
+// A streak, or none.
 fn paced_streak(
     storage: &mut [u8],
     keys: &mut [u8],
@@ -291,10 +412,10 @@ fn paced_streak(
     start: Cpu,
     wait: u32,
 ) -> Streak
-    requires { ⌜ Entered guest × (framesOf (now storage) ≤ length (now keys)) × Bounded start ⌝ }
-    ensures { λ r. ⌜ (r .units ≤ budget) × Streaks designation guest clock time budget start (now (storage .entry)) (now (keys .entry)) r (now (storage .exit)) (now (keys .exit)) ⌝ }
+    requires { ⌜ Entered guest × (framesOf (now storage) ≤ length (now keys)) × Bounded start × (start .psw .system370 ≡ system370Mode (guest .mode)) ⌝ }
+    ensures { λ r. ⌜ (r .units ≤ budget) × Paced designation guest clock time budget start (now (storage .entry)) (now (keys .entry)) r (now (storage .exit)) (now (keys .exit)) ⌝ }
 {
-    if wait > 0 {
+    if idle(start.psw.system370, wait) {
         let psw = start.psw;
         let general = start.general;
         return Streak {
@@ -317,7 +438,139 @@ fn paced_streak(
     )
 }
 
-// At most budget units from a state and a host clock.
+// The request byte behind an interception: T is cleared by the exit that it makes.
+fn answered(reason: Reason, request: u8) -> u8
+    ensures { λ r. ⌜ r ≡ cond (clearsT reason) (withoutT request) request ⌝ }
+{
+    match reason {
+        Reason::Instruction(_) => request,
+        Reason::Program {
+            code: _,
+            ilc: _,
+            address: _,
+        } => request,
+        Reason::ExternalRequest => request,
+        Reason::External(code) => {
+            if code == INTERVAL {
+                return interval::without_t(request);
+            }
+            request
+        }
+        Reason::IoRequest => request,
+        Reason::Wait => request,
+        Reason::Validity => request,
+        Reason::Stop => request,
+        Reason::Operation(_) => request,
+    }
+}
+
+// The request byte behind a unit that no update of the timer follows.
+fn request_behind(event: Event, request: u8) -> u8
+    ensures { λ r. ⌜ r ≡ requestBehind event request ⌝ }
+{
+    match event {
+        Event::Completed => request,
+        Event::Intercepted(reason) => answered(reason, request),
+        Event::Faulted(_) => request,
+    }
+}
+
+// The same, where the timer is active.
+fn behind_exit(timed: bool, event: Event, request: u8) -> u8
+    ensures { λ r. ⌜ (timed ≡ true → r ≡ requestBehind event request) ⌝ }
+{
+    if timed {
+        return request_behind(event, request);
+    }
+    request
+}
+
+// What the word does, by where it stands.
+fn due_at(word: Word) -> Due
+    ensures { λ r. ⌜ r ≡ dueAt word ⌝ }
+{
+    match word {
+        Word::At(at) => Due::At(at),
+        Word::Shut(f) => Due::Shut(f),
+    }
+}
+
+// What the word does at the end of the unit that begins here. The tables are looked at only where it falls.
+fn find_due(
+    storage: &[u8],
+    designation: u32,
+    guest: Guest,
+    timed: bool,
+    residue: u32,
+    time: u32,
+) -> Due
+    requires { ⌜ Entered guest × (timed ≡ active guest) ⌝ }
+    ensures { λ r. ⌜ DueFound designation guest (now (storage .entry)) residue time r ⌝ }
+{
+    if timed {
+        if interval::falls(residue, time) {
+            return due_at(interval::find_word(storage, designation, guest));
+        }
+    }
+    Due::Later
+}
+
+// The word that falls at the end of the unit cannot be stored into.
+fn is_shut(due: Due) -> bool
+    ensures { λ r. ⌜ r ≡ isShut due ⌝ }
+{
+    match due {
+        Due::Later => false,
+        Due::At(_) => false,
+        Due::Shut(_) => true,
+    }
+}
+
+// How the run ends where such a unit would complete.
+fn fault_end(due: Due) -> End
+    ensures { λ r. ⌜ r ≡ faultEnd due ⌝ }
+{
+    match due {
+        Due::Later => End::BudgetUsed,
+        Due::At(_) => End::BudgetUsed,
+        Due::Shut(f) => End::HostFault(f),
+    }
+}
+
+// The word falls where it is due, and the answer is the request byte behind that.
+fn fallen(storage: &mut [u8], due: Due, request: u8) -> u8
+    requires { ⌜ Reaches (now storage) due ⌝ }
+    ensures { λ r. ⌜ Fallen due request (now (storage .entry)) r (now (storage .exit)) ⌝ }
+{
+    match due {
+        Due::Later => request,
+        Due::At(at) => {
+            let word = interval::fall(storage, at);
+            interval::request_after(request, word)
+        }
+        Due::Shut(_) => request,
+    }
+}
+
+// The timer's update behind a completed unit.
+fn tick(storage: &mut [u8], timed: bool, due: Due, request: u8, residue: u32, time: u32) -> Ticked
+    requires { ⌜ (residue < period) × (time ≤ mostTime) × Reaches (now storage) due ⌝ }
+    ensures { λ r. ⌜ (r .residue < period)
+        × (timed ≡ true → Fallen due request (now (storage .entry)) (r .request) (now (storage .exit)) × (r .residue ≡ residueAfter residue time))
+        × (timed ≡ false → now (storage .exit) ≡ now (storage .entry)) ⌝ }
+{
+    if timed {
+        let after = fallen(storage, due, request);
+        return Ticked {
+            request: after,
+            residue: interval::residue_after(residue, time),
+        };
+    }
+    Ticked { request, residue }
+}
+
+// At most budget units of a guest from a state, a host clock, and the timer's request byte and residue, which mean nothing where the
+// timer is not active.
 pub fn run(
     storage: &mut [u8],
     keys: &mut [u8],
@@ -327,13 +580,20 @@ pub fn run(
     time: u32,
     budget: u32,
     start: Cpu,
+    request: u8,
+    residue: u32,
 ) -> Ended
-    requires { ⌜ Entered guest × (framesOf (now storage) ≤ length (now keys)) ⌝ }
-    ensures { λ r. ⌜ ((n : Numbers) (d : List ℕ) → n .designation ≡ designation → n .time ≡ time → Runs n d guest clock budget start (now (storage .entry)) (now (keys .entry)) r (now (storage .exit)) (now (keys .exit))) ⌝ }
+    requires { ⌜ Entered guest × (framesOf (now storage) ≤ length (now keys)) × (start .psw .system370 ≡ system370Mode (guest .mode)) ⌝ }
+    requires { ⌜ (time ≤ mostTime) × (residue < period) ⌝ }
+    ensures { λ r. ⌜ ((n : Numbers) (d : List ℕ) → n .designation ≡ designation → n .time ≡ time
+        → Runs n d guest clock budget start request residue (now (storage .entry)) (now (keys .entry)) r (now (storage .exit)) (now (keys .exit))) ⌝ }
 {
+    let active = interval::active(guest);
     let mut cpu = start;
     let mut now = clock;
     let mut units: u32 = 0;
+    let mut asked = request;
+    let mut rest = residue;
     let mut pace = Pace { wait: 0, pause: 0 };
     while units < budget {
         let streak = paced_streak(
@@ -352,10 +612,25 @@ pub fn run(
         units += streak.units;
         pace = pace_after(pace, streak.units);
         if units < budget {
-            let done = unit::unit(storage, keys, designation, guest, now, cpu);
+            let due = find_due(storage, designation, guest, active, rest, time);
+            let requested = both(active, interval::pending(asked));
+            let shut = is_shut(due);
+            let done = unit::unit(storage, keys, designation, guest, now, requested, shut, cpu);
             let event = done.event;
+            if both(shut, completed(event)) {
+                return Ended {
+                    end: fault_end(due),
+                    cpu,
+                    units,
+                    request: asked,
+                    residue: rest,
+                };
+            }
             cpu = state_after(cpu, done);
             if completed(event) {
+                let ticked = tick(storage, active, due, asked, rest, time);
+                asked = ticked.request;
+                rest = ticked.residue;
                 cpu = charged(cpu, time);
                 now = cpu::clock_after(now, time);
                 units += 1;
@@ -364,6 +639,8 @@ pub fn run(
                     end: end_of(event),
                     cpu,
                     units,
+                    request: behind_exit(active, event, asked),
+                    residue: rest,
                 };
             }
         }
@@ -372,5 +649,7 @@ pub fn run(
         end: End::BudgetUsed,
         cpu,
         units,
+        request: asked,
+        residue: rest,
     }
 }

@@ -30,12 +30,15 @@ use Rattle.text.specs.Fetching.{Halfword, EndsIn, noFrames, oneFrame, an
 pub wrap-below : (c : Cpu) (a : ℕ) → wrap c a < 2147483648
 wrap-below c a = wrap-by-mode (λ w. w a < 2147483648) c (omega arith) (omega arith)
 
+pub wrap-even : (c : Cpu) (a : ℕ) → a % 2 ≡ 0 → wrap c a % 2 ≡ 0
+wrap-even c a even = wrap-by-mode (λ w. w a % 2 ≡ 0) c (omega arith) (omega arith)
+
 -- the first halfword of an instruction at an even address
 pub initial : {h : Host} {g : Guest} {c : Cpu} {a : ℕ} {o : Operand} → a ≡ wrap c (instructionAddress c) → instructionAddress c % 2 ≡ 0
     → o ≡ operandOf g h c false a 2 → Halfword h g c 0 a o
 initial {c = c} {a = a} e even sought = record {
   address = e ∙ ap (wrap c) (sym (add-zero (instructionAddress c)));
-  even = wrap-by-mode (λ w. a ≡ w (instructionAddress c) → a % 2 ≡ 0) c (omega arith) (omega arith) e;
+  even = rw e (wrap-even c (instructionAddress c) even);
   sought = sought;
 }
 
@@ -76,7 +79,7 @@ module _ {h : Host} {g : Guest} {c : Cpu} {n a : ℕ} where
         e
         ∙ wrap-by-mode (λ w. a ≡ w (instructionAddress c + 2 * n) → w (a + 2) ≡ w (instructionAddress c + 2 * (n + 1))) c (omega arith) (omega arith)
         (found .address);
-    even = wrap-by-mode (λ w. b ≡ w (a + 2) → b % 2 ≡ 0) c (omega (arith, found .even)) (omega (arith, found .even)) e;
+    even = rw e (wrap-even c (a + 2) (omega (arith, found .even)));
     sought = sought;
   }
 

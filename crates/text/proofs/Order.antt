@@ -21,7 +21,7 @@ use Rattle.machine.specs.Opcodes.{sameClass}
 use Rattle.machine.specs.Outcomes.{Outcome, Progress}
 use Rattle.machine.specs.Interruptions.{exception}
 use Rattle.machine.specs.Execute.{next, operandAddress, interceptInstruction, execute}
-use Rattle.machine.specs.Units.{intercepts, misaligned, decoded, started, instruction, unit}
+use Rattle.machine.specs.Units.{intercepts, misaligned, decoded, started}
 use Rattle.cpu.specs.declared.Before.{Before}
 use Rattle.cpu.specs.declared.Before.the-variants.{Ends, Malformed, Instruction}
 use Rattle.cpu.specs.Before.{unitAfter}
@@ -98,11 +98,3 @@ module _ (h : Host) (g : Guest) (clock : ℕ) (c : Cpu) (before : Before) (d : D
     after-malformed f code list left =
         subst (λ b. Left h g c (unitAfter g clock (view g h) c b) d storage keys) (sym list)
         (by-failure h g c c (started g clock (view g h) c 0) d code left)
-
-    pub after-instruction : before ≡ Instruction → Left h g c (instruction (started g clock (view g h) c 1)) d storage keys
-        → Left h g c (unitAfter g clock (view g h) c before) d storage keys
-    after-instruction list left = subst (λ b. Left h g c (unitAfter g clock (view g h) c b) d storage keys) (sym list) left
-
-    pub after-list : unit g clock (view g h) c ≡ unitAfter g clock (view g h) c before → Left h g c (unitAfter g clock (view g h) c before) d storage keys
-        → Left h g c (unit g clock (view g h) c) d storage keys
-    after-list list left = subst (λ o. Left h g c o d storage keys) (sym list) left

@@ -25,7 +25,7 @@ use Rattle.machine.specs.Addresses.{access, all, stopped, accesses, span, whenR
 use Rattle.machine.specs.Opcodes.{opcodeOf}
 use Rattle.machine.specs.Outcomes.{Outcome, Progress}
 use Rattle.machine.specs.Interruptions.{exception}
-use Rattle.machine.specs.Units.{decoded, halfword, reading, firstText, secondText, thirdText, halfOf, fetchThird, fetchSecond, instruction, started}
+use Rattle.machine.specs.Units.{decoded, halfword, reading, firstText, secondText, thirdText, halfOf, opcodeIn, fetchThird, fetchSecond, instruction, started}
 use Rattle.machine.proofs.PageBytes.{span-of-wrap, marked-append, referenced-twice}
 use Rattle.address.specs.declared.Operand.{Operand}
 use Rattle.address.specs.declared.Operand.the-variants.{Open, Shut}
@@ -118,6 +118,16 @@ module _ {h : Host} {x : Progress} {g : Guest} {clock : ℕ} {c : Cpu} {text : T
   long : (m : ℕ) → m ≤ text .ilc → ltb (x .text .ilc) m ≡ false
   long m more = le-ltb _ m (subst (λ s. m ≤ s .ilc) (sym (standing .ofText)) more)
 
+module _ {h : Host} {x : Progress} {g : Guest} {clock : ℕ} {c : Cpu} {text : Text} {t : Frames} (standing : Standing h x g clock c text t)
+    {psw : Psw} (ofPsw : c .psw ≡ psw) where
+  -- the table is looked up for the architecture of the PSW
+
+  architecture : x .cpu .psw .system370 ≡ psw .system370
+  architecture = ap (λ k. k .psw .system370) (standing .ofCpu) ∙ ap (λ p. p .system370) ofPsw
+
+  opcode-in : opcodeIn x ≡ opcodeOf (psw .system370) (text .first)
+  opcode-in = λ i. opcodeOf (architecture i) (standing .ofText i .first)
+
 -- the opcode by an equal one
 with-opcode : {h : Host} {g : Guest} {clock : ℕ} {c : Cpu} {o : Outcome} {code code' : Opcode} (r : Reading) → code ≡ code'
     → FetchedAs h g clock c o code r → FetchedAs h g clock c o code' r
@@ -125,15 +135,15 @@ with-opcode {h} {g} {clock} {c} {o} r same fetched = subst (λ code. FetchedAs h
 
 module _ {h : Host} {g : Guest} {psw : Psw} {control : Registers} (text : Text) (t : Frames) where
   -- the instruction is shorter
-  pub second-spare : text .ilc < 2 → Fetches h g psw control text t fetchSecond (opcodeOf (text .first)) (whole text t)
+  pub second-spare : text .ilc < 2 → Fetches h g psw control text t fetchSecond (opcodeOf (psw .system370) (text .first)) (whole text t)
   unfolding fetchSecond
   second-spare less x clock c ofPsw ofControl standing =
-      (x, standing, rw (short standing 2 less) (ap (λ s. decoded x (opcodeOf (s .first))) (standing .ofText)))
+      (x, standing, rw (short standing 2 less) (ap (decoded x) (opcode-in standing ofPsw)))
 
-  pub third-spare : text .ilc < 3 → Fetches h g psw control text t fetchThird (opcodeOf (text .first)) (whole text t)
+  pub third-spare : text .ilc < 3 → Fetches h g psw control text t fetchThird (opcodeOf (psw .system370) (text .first)) (whole text t)
   unfolding fetchThird
   third-spare less x clock c ofPsw ofControl standing =
-      (x, standing, rw (short standing 3 less) (ap (λ s. decoded x (opcodeOf (s .first))) (standing .ofText)))
+      (x, standing, rw (short standing 3 less) (ap (decoded x) (opcode-in standing ofPsw)))
 
   -- an odd address
   pub first-odd : (code : Opcode) → instructionAddress (seen psw control) % 2 ≡ 1
@@ -164,33 +174,33 @@ module _ {h : Host} {g : Guest} {psw : Psw} {control : Registers} (text : Text) 
   -- the next halfword stands at p, and its frame is among the frames from then on
   module _ (p : ℕ) {a : ℕ} (t' : Frames) (marks : (k : List ℕ) → markFrame referenced (p / 4096) (markText t k) ≡ markText t' k) where
     pub first-open : (text' : Text) (code : Opcode) (r : Reading) → Halfword h g (seen psw control) 0 a (Open p 2 0)
-        → text' ≡ firstText (halfAt (h .storage) p) → code ≡ opcodeOf (text' .first)
-        → Fetches h g psw control text' t' fetchSecond (opcodeOf (text' .first)) r → Fetches h g psw control text t instruction code r
+        → text' ≡ firstText (psw .system370) (halfAt (h .storage) p) → code ≡ opcodeOf (psw .system370) (text' .first)
+        → Fetches h g psw control text' t' fetchSecond (opcodeOf (psw .system370) (text' .first)) r → Fetches h g psw control text t instruction code r
     unfolding instruction whenReached
     first-open text' code r found isText known rest x clock c ofPsw ofControl standing =
         let (ls, read) = halfword-open standing ofPsw ofControl 0 found in
         let (y, stands, same) = with-opcode r (sym known) (rest _ clock c ofPsw ofControl (read .stands text' t' marks)) in
         let step : instruction x ≡ fetchSecond (reading x text' ls) =
-        rw (not-odd standing ofPsw ofControl 0 found, read .reached, isText) (ap (λ half. fetchSecond (reading x (firstText half) ls)) (read .half)) in
+        rw (not-odd standing ofPsw ofControl 0 found, read .reached, isText) (λ i. fetchSecond (reading x (firstText (architecture standing ofPsw i) (read .half i)) ls)) in
         (y, stands, step ∙ same)
 
     pub second-open : (text' : Text) (r : Reading) → 2 ≤ text .ilc → Halfword h g (seen psw control) 1 a (Open p 2 0)
-        → text' ≡ secondText text (halfAt (h .storage) p) → Fetches h g psw control text' t' fetchThird (opcodeOf (text' .first)) r
-        → Fetches h g psw control text t fetchSecond (opcodeOf (text .first)) r
+        → text' ≡ secondText text (halfAt (h .storage) p) → Fetches h g psw control text' t' fetchThird (opcodeOf (psw .system370) (text' .first)) r
+        → Fetches h g psw control text t fetchSecond (opcodeOf (psw .system370) (text .first)) r
     unfolding fetchSecond whenReached
     second-open text' r more found isText rest x clock c ofPsw ofControl standing =
         let (ls, read) = halfword-open standing ofPsw ofControl 1 found in
-        let (y, stands, same) = with-opcode r (ap (λ u. opcodeOf (u .first)) isText) (rest _ clock c ofPsw ofControl (read .stands text' t' marks)) in
+        let (y, stands, same) = with-opcode r (ap (λ u. opcodeOf (psw .system370) (u .first)) isText) (rest _ clock c ofPsw ofControl (read .stands text' t' marks)) in
         let step : fetchSecond x ≡ fetchThird (reading x text' ls) =
         rw (long standing 2 more, read .reached, isText) (λ i. fetchThird (reading x (secondText (standing .ofText i) (read .half i)) ls)) in
         (y, stands, step ∙ same)
 
     pub third-open : 3 ≤ text .ilc → Halfword h g (seen psw control) 2 a (Open p 2 0)
-        → Fetches h g psw control text t fetchThird (opcodeOf (text .first)) (whole (thirdText text (halfAt (h .storage) p)) t')
+        → Fetches h g psw control text t fetchThird (opcodeOf (psw .system370) (text .first)) (whole (thirdText text (halfAt (h .storage) p)) t')
     unfolding fetchThird whenReached
     third-open more found x clock c ofPsw ofControl standing =
         let (ls, read) = halfword-open standing ofPsw ofControl 2 found in (
           reading x (thirdText text (halfAt (h .storage) p)) ls,
           read .stands _ t' marks,
-          rw (long standing 3 more, read .reached) (λ i. decoded (reading x (thirdText (standing .ofText i) (read .half i)) ls) (opcodeOf (standing .ofText i .first))),
+          rw (long standing 3 more, read .reached) (λ i. decoded (reading x (thirdText (standing .ofText i) (read .half i)) ls) (opcode-in standing ofPsw i)),
         )

@@ -131,12 +131,12 @@ fn with_third(storage: &[u8], text: Text, place: u32) -> Text
     }
 }
 
-// Where the halfword at a wrapped logical address stands, or why it cannot be read.
+// Where the halfword at an even wrapped logical address stands, or why it cannot be read: it never goes over a page.
 fn find_half(storage: &[u8], keys: &[u8], by: Addressing, at: u32) -> Operand
-    requires { ⌜ Entered (by .guest) × (framesOf (now storage) ≤ length (now keys)) × (at < 2147483648) ⌝ }
+    requires { ⌜ Entered (by .guest) × (framesOf (now storage) ≤ length (now keys)) × (at % 2 ≡ 0) ⌝ }
     ensures { λ r. ⌜ r ≡ operandOf (by .guest) (host (by .designation) (now (storage .entry)) (now (keys .entry))) (seen (by .psw) (by .control)) false at 2 ⌝ }
 {
-    address::find_operand(
+    let place = address::touch(
         storage,
         keys,
         by.designation,
@@ -145,8 +145,8 @@ fn find_half(storage: &[u8], keys: &[u8], by: Addressing, at: u32) -> Operand
         by.control,
         false,
         at,
-        2,
-    )
+    );
+    address::one_page(2, place)
 }
 
 // The third halfword, on another page than the second.
@@ -162,7 +162,7 @@ fn third_page(
     requires { ⌜ Entered (by .guest) × (framesOf (now storage) ≤ length (now keys)) ⌝ }
     requires { ⌜ WithKeys (now keys) frames × (frames .count ≡ 1) × (text .ilc ≡ 3) ⌝ }
     requires { ⌜ Halfword (host (by .designation) (now storage) (now keys)) (by .guest) (seen (by .psw) (by .control)) 2 at operand ⌝ }
-    ensures { λ r. ⌜ Fetches (host (by .designation) (now (storage .entry)) (now (keys .entry))) (by .guest) (by .psw) (by .control) text frames fetchThird (opcodeOf (text .first)) r ⌝ }
+    ensures { λ r. ⌜ Fetches (host (by .designation) (now (storage .entry)) (now (keys .entry))) (by .guest) (by .psw) (by .control) text frames fetchThird (opcodeOf (by .psw .system370) (text .first)) r ⌝ }
     ensures { λ r. ⌜ Usable (now (keys .entry)) r ⌝ }
 {
     match operand {
@@ -195,7 +195,7 @@ fn fetch_third(
     requires { ⌜ Entered (by .guest) × (framesOf (now storage) ≤ length (now keys)) ⌝ }
     requires { ⌜ WithKeys (now keys) frames × (text .ilc ≤ 3) × EndsIn frames at place ⌝ }
     requires { ⌜ Halfword (host (by .designation) (now storage) (now keys)) (by .guest) (seen (by .psw) (by .control)) 1 at (Operand.Open place 2 0) ⌝ }
-    ensures { λ r. ⌜ Fetches (host (by .designation) (now (storage .entry)) (now (keys .entry))) (by .guest) (by .psw) (by .control) text frames fetchThird (opcodeOf (text .first)) r ⌝ }
+    ensures { λ r. ⌜ Fetches (host (by .designation) (now (storage .entry)) (now (keys .entry))) (by .guest) (by .psw) (by .control) text frames fetchThird (opcodeOf (by .psw .system370) (text .first)) r ⌝ }
     ensures { λ r. ⌜ Usable (now (keys .entry)) r ⌝ }
 {
     if text.ilc < 3 {
@@ -222,7 +222,7 @@ fn second_page(
     requires { ⌜ Entered (by .guest) × (framesOf (now storage) ≤ length (now keys)) ⌝ }
     requires { ⌜ WithKeys (now keys) frames × (frames .count ≡ 1) × (2 ≤ text .ilc) × (text .ilc ≤ 3) × (at % 4096 ≡ 0) ⌝ }
     requires { ⌜ Halfword (host (by .designation) (now storage) (now keys)) (by .guest) (seen (by .psw) (by .control)) 1 at operand ⌝ }
-    ensures { λ r. ⌜ Fetches (host (by .designation) (now (storage .entry)) (now (keys .entry))) (by .guest) (by .psw) (by .control) text frames fetchSecond (opcodeOf (text .first)) r ⌝ }
+    ensures { λ r. ⌜ Fetches (host (by .designation) (now (storage .entry)) (now (keys .entry))) (by .guest) (by .psw) (by .control) text frames fetchSecond (opcodeOf (by .psw .system370) (text .first)) r ⌝ }
     ensures { λ r. ⌜ Usable (now (keys .entry)) r ⌝ }
 {
     match operand {
@@ -254,7 +254,7 @@ fn fetch_second(
 ) -> Reading
     requires { ⌜ Entered (by .guest) × (framesOf (now storage) ≤ length (now keys)) × (text .ilc ≤ 3) ⌝ }
     requires { ⌜ Halfword (host (by .designation) (now storage) (now keys)) (by .guest) (seen (by .psw) (by .control)) 0 at (Operand.Open place 2 0) ⌝ }
-    ensures { λ r. ⌜ Fetches (host (by .designation) (now (storage .entry)) (now (keys .entry))) (by .guest) (by .psw) (by .control) text (oneFrame place) fetchSecond (opcodeOf (text .first)) r ⌝ }
+    ensures { λ r. ⌜ Fetches (host (by .designation) (now (storage .entry)) (now (keys .entry))) (by .guest) (by .psw) (by .control) text (oneFrame place) fetchSecond (opcodeOf (by .psw .system370) (text .first)) r ⌝ }
     ensures { λ r. ⌜ Usable (now (keys .entry)) r ⌝ }
 {
     let frames = Frames {
@@ -289,7 +289,7 @@ fn fetch_first(storage: &[u8], keys: &[u8], by: Addressing, at: u32, operand: Op
             second: _,
         } => {
             let half = words::half_at(storage, place as usize);
-            let opcode = decode::decode(half);
+            let opcode = decode::decode(by.psw.system370, half);
             let text = Text {
                 ilc: opcode.length,
                 first: half as u16,

@@ -1,7 +1,8 @@
 // One unit of a guest: the list before it, the fetch of the text, the order of an instruction's tests, and the instruction. The
-// contract of unit equates how it ends, state, storage and keys with machine's unit put into effect.
+// contract of unit equates how it ends, state, storage and keys with machine's unit put into effect. While the interval timer's word is
+// shut, an instruction that would complete is told and not done.
 ghost use mathlib.Core.Path.{_≡_};
-ghost use mathlib.Core.Bool.{_&&_};
+ghost use mathlib.Core.Bool.{true, false, _&&_};
 ghost use Prim.Native.Nat.{ℕ, _≤_, _<_};
 ghost use lib.ListN.{length};
 ghost use Rattle.machine.specs.declared.Class.the-variants.{Unassigned};
@@ -14,9 +15,10 @@ ghost use Rattle.machine.specs.Execute.{interceptInstruction, execute};
 ghost use Rattle.machine.specs.Units.{intercepts, decoded, started, instruction, unit};
 ghost use Rattle.storage.specs.Entered.{Entered};
 ghost use Rattle.cpu.specs.Before.{unitAfter};
-ghost use Rattle.execute.specs.After.{Left};
+ghost use Rattle.ahead.specs.Completing.{performs, InHand};
 ghost use Rattle.execute.specs.Reaching.{Ready, Does};
-ghost use Rattle.unit.specs.Testing.{afterTests, exceptionCode};
+ghost use Rattle.unit.specs.Testing.{WithOperand, afterTests, exceptionCode};
+ghost use Rattle.unit.specs.Foretelling.{Comes, Tells};
 use cpu::Before;
 use execute::Done;
 use execute::Event;
@@ -104,6 +106,33 @@ fn unfetched() -> Text
     }
 }
 
+// The effect of an instruction with an operand in storage, by its class, the last of which is STPT.
+fn perform_operand(
+    class: Class,
+    storage: &mut [u8],
+    keys: &mut [u8],
+    designation: u32,
+    guest: Guest,
+    clock: u64,
+    cpu: Cpu,
+    text: Text,
+    t: Frames,
+) -> Done
+    requires { ⌜ Ready (now storage) (now keys) guest text t × WithOperand class ⌝ }
+    ensures { λ r. ⌜ Does (execute class) (host designation (now (storage .entry)) (now (keys .entry))) guest clock cpu text t r (now (storage .exit)) (now (keys .exit)) ⌝ }
+{
+    match class {
+        Class::St => stores::store(storage, keys, designation, guest, cpu, text, t),
+        Class::L => loads::load(storage, keys, designation, guest, cpu, text, t),
+        Class::Lpsw => loads::load_psw(storage, keys, designation, guest, cpu, text, t),
+        Class::Stctl => stores::store_control(storage, keys, designation, guest, cpu, text, t),
+        Class::Lctl => loads::load_control(storage, keys, designation, guest, cpu, text, t),
+        Class::Stck => stores::store_clock(storage, keys, designation, guest, clock, cpu, text, t),
+        Class::Spt => loads::set_timer(storage, keys, designation, guest, cpu, text, t),
+        _ => stores::store_timer(storage, keys, designation, guest, cpu, text, t),
+    }
+}
+
 // The effect of an instruction, by its class.
 fn perform(
     class: Class,
@@ -127,19 +156,22 @@ fn perform(
         Class::Svc => registers::supervisor_call(storage, keys, designation, guest, cpu, text, t),
         Class::La => registers::load_address(keys, cpu, text, t),
         Class::Bc => registers::branch_indexed(keys, cpu, text, t),
-        Class::St => stores::store(storage, keys, designation, guest, cpu, text, t),
-        Class::L => loads::load(storage, keys, designation, guest, cpu, text, t),
-        Class::Lpsw => loads::load_psw(storage, keys, designation, guest, cpu, text, t),
-        Class::Stctl => stores::store_control(storage, keys, designation, guest, cpu, text, t),
-        Class::Lctl => loads::load_control(storage, keys, designation, guest, cpu, text, t),
-        Class::Stck => stores::store_clock(storage, keys, designation, guest, clock, cpu, text, t),
-        Class::Spt => loads::set_timer(storage, keys, designation, guest, cpu, text, t),
-        Class::Stpt => stores::store_timer(storage, keys, designation, guest, cpu, text, t),
         Class::Mandatory => intercept_instruction(cpu, text),
         Class::Unassigned => {
             let f = address::exception_of(OPERATION);
             execute::excepted(storage, keys, designation, guest, cpu, text, t, f)
         }
+        _ => perform_operand(
+            class,
+            storage,
+            keys,
+            designation,
+            guest,
+            clock,
+            cpu,
+            text,
+            t,
+        ),
     }
 }
 
@@ -166,6 +198,59 @@ fn tested(o: Opcode, guest: Guest, psw: Psw, general: Registers, text: Text) -> 
     Tests::Clear
 }
 
+// The instruction completes: asked only while the interval timer's word is shut.
+fn foretells(
+    shut: bool,
+    class: Class,
+    storage: &[u8],
+    keys: &[u8],
+    designation: u32,
+    guest: Guest,
+    cpu: Cpu,
+    text: Text,
+) -> bool
+    requires { ⌜ Entered guest × (framesOf (now storage) ≤ length (now keys)) ⌝ }
+    ensures { λ r. ⌜ (shut ≡ false → r ≡ false) × (shut ≡ true → (x : Progress)
+        → InHand (host designation (now (storage .entry)) (now (keys .entry))) x guest cpu text → r ≡ performs class x) ⌝ }
+{
+    if shut {
+        return ahead::performs(class, storage, keys, designation, guest, cpu, text);
+    }
+    false
+}
+
+// An instruction whose tests are clear.
+fn cleared(
+    class: Class,
+    storage: &mut [u8],
+    keys: &mut [u8],
+    designation: u32,
+    guest: Guest,
+    clock: u64,
+    shut: bool,
+    cpu: Cpu,
+    text: Text,
+    t: Frames,
+) -> Done
+    requires { ⌜ Ready (now storage) (now keys) guest text t ⌝ }
+    ensures { λ r. ⌜ Tells shut (execute class) (host designation (now (storage .entry)) (now (keys .entry))) guest clock cpu text t r (now (storage .exit)) (now (keys .exit)) ⌝ }
+{
+    if foretells(shut, class, storage, keys, designation, guest, cpu, text) {
+        return execute::with_psw(cpu, cpu.psw);
+    }
+    perform(
+        class,
+        storage,
+        keys,
+        designation,
+        guest,
+        clock,
+        cpu,
+        text,
+        t,
+    )
+}
+
 // An instruction whose text is fetched, by what its tests come to.
 fn decoded(
     storage: &mut [u8],
@@ -173,13 +258,14 @@ fn decoded(
     designation: u32,
     guest: Guest,
     clock: u64,
+    shut: bool,
     cpu: Cpu,
     text: Text,
     t: Frames,
     o: Opcode,
 ) -> Done
     requires { ⌜ Ready (now storage) (now keys) guest text t × (0 < o .alignment) ⌝ }
-    ensures { λ r. ⌜ Does (λ x. decoded x o) (host designation (now (storage .entry)) (now (keys .entry))) guest clock cpu text t r (now (storage .exit)) (now (keys .exit)) ⌝ }
+    ensures { λ r. ⌜ Tells shut (λ x. decoded x o) (host designation (now (storage .entry)) (now (keys .entry))) guest clock cpu text t r (now (storage .exit)) (now (keys .exit)) ⌝ }
 {
     let class = o.class;
     let tests = tested(o, guest, cpu.psw, cpu.general, text);
@@ -189,13 +275,14 @@ fn decoded(
             execute::excepted(storage, keys, designation, guest, cpu, text, t, f)
         }
         Tests::Intercepted => intercept_instruction(cpu, text),
-        Tests::Clear => perform(
+        Tests::Clear => cleared(
             class,
             storage,
             keys,
             designation,
             guest,
             clock,
+            shut,
             cpu,
             text,
             t,
@@ -210,10 +297,11 @@ fn instruction(
     designation: u32,
     guest: Guest,
     clock: u64,
+    shut: bool,
     cpu: Cpu,
 ) -> Done
     requires { ⌜ Entered guest × (framesOf (now storage) ≤ length (now keys)) ⌝ }
-    ensures { λ r. ⌜ Left (host designation (now (storage .entry)) (now (keys .entry))) guest cpu
+    ensures { λ r. ⌜ Comes shut (host designation (now (storage .entry)) (now (keys .entry))) guest cpu
         (instruction (started guest clock (view guest (host designation (now (storage .entry)) (now (keys .entry)))) cpu 1)) r (now (storage .exit)) (now (keys .exit)) ⌝ }
 {
     let fetched = text::fetch(storage, keys, designation, guest, cpu.psw, cpu.control);
@@ -231,6 +319,7 @@ fn instruction(
         designation,
         guest,
         clock,
+        shut,
         cpu,
         text,
         t,
@@ -245,11 +334,12 @@ fn unit_after(
     designation: u32,
     guest: Guest,
     clock: u64,
+    shut: bool,
     cpu: Cpu,
     before: Before,
 ) -> Done
     requires { ⌜ Entered guest × (framesOf (now storage) ≤ length (now keys)) ⌝ }
-    ensures { λ r. ⌜ Left (host designation (now (storage .entry)) (now (keys .entry))) guest cpu
+    ensures { λ r. ⌜ Comes shut (host designation (now (storage .entry)) (now (keys .entry))) guest cpu
         (unitAfter guest clock (view guest (host designation (now (storage .entry)) (now (keys .entry)))) cpu before) r (now (storage .exit)) (now (keys .exit)) ⌝ }
 {
     match before {
@@ -267,23 +357,26 @@ fn unit_after(
             };
             execute::excepted(storage, keys, designation, guest, cpu, unfetched(), none, f)
         }
-        Before::Instruction => instruction(storage, keys, designation, guest, clock, cpu),
+        Before::Instruction => instruction(storage, keys, designation, guest, clock, shut, cpu),
     }
 }
 
-// One unit of the guest from this state at this host clock.
+// One unit of the guest from this state at this host clock, with the interval timer's request or without; where the timer's word is shut,
+// one that would complete is told and not done.
 pub fn unit(
     storage: &mut [u8],
     keys: &mut [u8],
     designation: u32,
     guest: Guest,
     clock: u64,
+    requested: bool,
+    shut: bool,
     cpu: Cpu,
 ) -> Done
     requires { ⌜ Entered guest × (framesOf (now storage) ≤ length (now keys)) ⌝ }
-    ensures { λ r. ⌜ Left (host designation (now (storage .entry)) (now (keys .entry))) guest cpu
-        (unit guest clock (view guest (host designation (now (storage .entry)) (now (keys .entry)))) cpu) r (now (storage .exit)) (now (keys .exit)) ⌝ }
+    ensures { λ r. ⌜ Comes shut (host designation (now (storage .entry)) (now (keys .entry))) guest cpu
+        (unit guest clock requested (view guest (host designation (now (storage .entry)) (now (keys .entry)))) cpu) r (now (storage .exit)) (now (keys .exit)) ⌝ }
 {
-    let before = cpu::before_unit(guest, clock, cpu.psw, cpu.timer, cpu.control);
-    unit_after(storage, keys, designation, guest, clock, cpu, before)
+    let before = cpu::before_unit(guest, clock, requested, cpu.psw, cpu.timer, cpu.control);
+    unit_after(storage, keys, designation, guest, clock, shut, cpu, before)
 }

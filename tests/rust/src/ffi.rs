@@ -79,14 +79,6 @@ pub fn pack(answer: Answer, units: u32) -> Packed {
     Packed { word: (kind as u64) << 56 | (number as u64) << 48 | units as u64, location }
 }
 
-/// Whether the library takes the record of 208 bytes: a good one, in 370-XA mode, is not refused. Asked by
-/// `report::machines` and by `library_knows` in tests/system_370.rs; once the library takes it, all three can go.
-pub fn takes_larger_record() -> bool {
-    let mut record = [0; 208];
-    (record[1], record[2], record[4], record[15]) = (208, 2, 0x08, 1);
-    check(&record) >> 56 != REFUSED as u64
-}
-
 pub fn check(record: &[u8]) -> u64 {
     unsafe { drevokas_check(record.as_ptr(), record.len()) }
 }

@@ -7,13 +7,7 @@ use std::collections::BTreeMap;
 use std::fs;
 
 /// The machines that are tried.
-pub fn machines() -> Vec<Machine> {
-    if !ffi::takes_larger_record() {
-        println!("the library does not take the record of 208 bytes yet: cases with it are left out");
-        return vec![Machine::Xa];
-    }
-    vec![Machine::Xa, Machine::System370, Machine::XaLarger]
-}
+pub const MACHINES: [Machine; 3] = [Machine::Xa, Machine::System370, Machine::XaLarger];
 
 /// "Case file and worked examples": the bytes of a case file, where the format can hold the case.
 pub fn case_file(case: &Case) -> Option<Vec<u8>> {

@@ -42,25 +42,16 @@ fn guest(psw: [u8; 8], text: &[u8]) -> Case {
     Case { record, storage, keys: vec![0; 8], designation: 0x1000, clock: 0, time: 1, budget: 1, addresses: Vec::new() }
 }
 
-/// Whether the library can be asked.
-fn library_knows(case: &Case) -> bool {
-    case.record.len() != 208 || ffi::takes_larger_record()
-}
-
 fn checks(case: &Case, answer: Answer) {
     assert_eq!(model::check(&case.record), answer);
-    if library_knows(case) {
-        assert_eq!(ffi::check(&case.record), ffi::pack(answer, 0).word);
-    }
+    assert_eq!(ffi::check(&case.record), ffi::pack(answer, 0).word);
 }
 
 fn translates(case: &Case, address: u32, access: u32, answer: Answer) {
     let Case { record, storage, keys, designation, .. } = case;
     assert_eq!(model::translate(record, storage, keys, *designation, address, access), answer);
-    if library_knows(case) {
-        let given = ffi::translate(record, storage, keys, *designation, address, access);
-        assert_eq!(given, ffi::pack(answer, 0));
-    }
+    let given = ffi::translate(record, storage, keys, *designation, address, access);
+    assert_eq!(given, ffi::pack(answer, 0));
 }
 
 /// Runs the case and answers what is left.
@@ -69,13 +60,11 @@ fn runs(case: &Case, answer: Answer, units: u32) -> Case {
     let Case { record, storage, keys, designation, clock, time, budget, .. } = &mut left;
     let end = model::run(record, storage, keys, *designation, *clock, *time, *budget);
     assert_eq!((end.answer, end.units), (answer, units));
-    if library_knows(case) {
-        let mut other = case.clone();
-        let Case { record, storage, keys, designation, clock, time, budget, .. } = &mut other;
-        let given = ffi::run(record, storage, keys, *designation, *clock, *time, *budget);
-        assert_eq!(given, ffi::pack(answer, units));
-        assert!(left.record == other.record && left.storage == other.storage && left.keys == other.keys);
-    }
+    let mut other = case.clone();
+    let Case { record, storage, keys, designation, clock, time, budget, .. } = &mut other;
+    let given = ffi::run(record, storage, keys, *designation, *clock, *time, *budget);
+    assert_eq!(given, ffi::pack(answer, units));
+    assert!(left.record == other.record && left.storage == other.storage && left.keys == other.keys);
     left
 }
 

@@ -84,7 +84,7 @@ returns-4 c =
       backing-keyless g (start .args .designation) (start .args .storage .now) (start .args .keys .now),
       behind-found g (start .args .designation) (start .args .storage .now) _ v (sees-bound _ g x (start .pre .0) sees) (virtual .virtual-of .ensures g x sees) (paged .before .before .before .if2 .left) p found (c .before .if3 .left),
     )
-    (c .settle .ensures g x _ (start .args .a) (sees .left) (behind-virtual g (start .args .designation) (start .args .storage .now) _ v (sees-bound _ g x (start .pre .0) sees) (virtual .virtual-of .ensures g x sees) (paged .before .before .before .if2 .left)))
+    (c .settle .ensures g x _ (start .args .a) (sees .key) (behind-virtual g (start .args .designation) (start .args .storage .now) _ v (sees-bound _ g x (start .pre .0) sees) (virtual .virtual-of .ensures g x sees) (paged .before .before .before .if2 .left)))
 
 pub in-page-spec : {M : Type 1} → statement M
 in-page-spec =

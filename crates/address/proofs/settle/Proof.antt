@@ -27,7 +27,7 @@ excepted-requires c κs = search needs
 
 returns : tie.Need-returns
 unfolding settled placeIn failureIn walkException
-returns c = λ g x absolute a left is. rw (sym (c .before .before .guest-protects .ensures x left) ∙ c .before .if1 .taken, c .excepted .ensures)
+returns c = λ g x absolute a key is. rw (sym (c .before .before .guest-protects .ensures x key) ∙ c .before .if1 .taken, c .excepted .ensures)
 
 both-requires : tie.Need-both-requires
 both-requires c κs = search needs
@@ -38,9 +38,9 @@ faulted-requires c κs = search needs
 returns-2 : tie.Need-returns-2
 unfolding settled
 returns-2 c =
-    λ g x absolute a left is.
+    λ g x absolute a key is.
     let v = c .before .before .before .before .before .before .before .args .v in
-    rw (sym (c .before .before .before .before .guest-protects .ensures x left) ∙ c .before .before .before .if1 .left, sym (c .before .before .both .ensures) ∙ c .before .if2 .taken, c .faulted .ensures, failed-place a (faultNumber v 4) (omega arith), failure-fault a v 4 (omega arith), is)
+    rw (sym (c .before .before .before .before .guest-protects .ensures x key) ∙ c .before .before .before .if1 .left, sym (c .before .before .both .ensures) ∙ c .before .if2 .taken, c .faulted .ensures, failed-place a (faultNumber v 4) (omega arith), failure-fault a v 4 (omega arith), is)
 
 mul-result : tie.Need-mul-result
 mul-result c = search needs
@@ -53,7 +53,7 @@ cast-result c = search needs
 
 returns-3 : tie.Need-returns-3
 unfolding settled
-returns-3 c = λ g x absolute a left is. rw (sym (c .before .before .before .guest-protects .ensures x left) ∙ c .before .before .if1 .left, sym (c .before .both .ensures) ∙ c .if2 .left) (found-place g absolute _ _ a is (omega arith))
+returns-3 c = λ g x absolute a key is. rw (sym (c .before .before .before .guest-protects .ensures x key) ∙ c .before .before .if1 .left, sym (c .before .both .ensures) ∙ c .if2 .left) (found-place g absolute _ _ a is (omega arith))
 
 pub settle-spec : {M : Type 1} → statement M
 settle-spec =

@@ -1,11 +1,20 @@
 -- `cases::record_of` meets its contract.
 -- Assumes nothing.
 use borrow.Author.Needs.{needs}
+use Prim.Native.Nat.{_+_}
 use native.Mathlib.Omega.{arith}
-use mathlib.Core.Path.{_∙_}
-use Rattle.cases.proofs.CaseFiles.{good-length, record-length, copied-whole}
+use mathlib.Core.Path.{ap}
+use lib.ListN.{length-take, length-drop}
+use Rattle.cases.specs.CaseFile.{recordAt, recordSize, recordOf}
+use Rattle.cases.proofs.CaseFiles.{size-least, size-most, good-length, record-length, copied-front, record-taken}
 use Rattle.cases.proofs.record_of.Statement.{statement}
 use Rattle.cases.proofs.record_of.Tie as tie
+
+record-size-requires : tie.Need-record-size-requires
+record-size-requires c κs = omega (arith, good-length (c .before .args .file .now) (c .before .pre), size-least (c .before .args .file .now))
+
+add-end : tie.Need-add-end
+add-end c = omega (arith, c .record-size .ensures, size-most (c .before .before .args .file .now))
 
 sub-copy : tie.Need-sub-copy
 sub-copy c = search needs
@@ -14,20 +23,32 @@ part-copy-start : tie.Need-part-copy-start
 part-copy-start c = search needs
 
 part-copy-end : tie.Need-part-copy-end
-part-copy-end c = omega (arith, good-length _ (c .before .pre))
+part-copy-end c = omega (arith, c .record-size .ensures, good-length (c .before .before .args .file .now) (c .before .before .pre))
 
 slice-aggregate-copy : tie.Need-slice-aggregate-copy
 slice-aggregate-copy c = search needs
 
 copy-requires : tie.Need-copy-requires
-copy-requires c κs = search needs
+copy-requires c κs = simp (length-take, length-drop) (omega (arith, c .before .before .record-size .ensures, size-most (c .before .before .before .before .args .file .now)))
 
 returns : tie.Need-returns
 returns c =
-    let back5 = c .before .before .before .before .before in
-    c .before .copy .ensures .1 ∙ copied-whole _ _ (record-length _ (back5 .pre))
+    let start = c .before .before .before .before .before .before in
+    let file = start .args .file .now in (
+      c .before .copy .kept .1 .0,
+      copied-front _ _ (recordOf file) (recordSize file) (c .before .copy .ensures .1) (record-taken file _ (ap (λ n. recordAt + n) (c .before .before .before .before .record-size .ensures)))
+          (record-length file (start .pre)),
+    )
 
 pub record-of-spec : {M : Type 1} → statement M
 record-of-spec =
     tie.close
-    (tie.spec sub-copy part-copy-start part-copy-end slice-aggregate-copy copy-requires returns)
+    (tie.spec
+    record-size-requires
+    add-end
+    sub-copy
+    part-copy-start
+    part-copy-end
+    slice-aggregate-copy
+    copy-requires
+    returns)

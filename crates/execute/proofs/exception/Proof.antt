@@ -1,11 +1,12 @@
 -- `execute::exception` meets its contract.
 -- Assumes nothing.
-use mathlib.Core.Path.{refl, ap, sym, subst, _∙_}
+use mathlib.Core.Path.{refl, ap, sym, _∙_}
 use borrow.Author.Tests.{eq-eqb, ne-eqb}
 use borrow.Author.Needs.{needs}
 use Rattle.machine.specs.Psw.{withPsw}
 use Rattle.machine.specs.Host.{host}
-use Rattle.execute.specs.After.{leftBy, Before}
+use Rattle.execute.specs.After.{leftBy}
+use Rattle.execute.proofs.Leaving.{left-taken, old-replaced}
 use Rattle.execute.proofs.Exceptions.{excepted-host, excepted-operation, excepted-program, excepted-interruption}
 use Rattle.execute.proofs.exception.Statement.{statement}
 use Rattle.execute.proofs.exception.Tie as tie
@@ -66,14 +67,11 @@ returns-3 c =
 program-interruption-requires : tie.Need-program-interruption-requires
 program-interruption-requires c κs = search needs
 
-ended-with-requires-3 : tie.Need-ended-with-requires-3
-ended-with-requires-3 c κs = search needs
+take-requires : tie.Need-take-requires
+take-requires c κs = search needs
 
-interrupt-requires : tie.Need-interrupt-requires
-interrupt-requires c κs =
-    let back3 = c .before .before .before in
-    let pre = back3 .before .before .before .before .before .before .before .before .before .pre in
-    (pre .0 .0, pre .0 .1, pre .0 .2, back3 .program-interruption .ensures .0)
+interrupted-requires : tie.Need-interrupted-requires
+interrupted-requires c κs = search needs
 
 same-length : tie.Need-same-length
 same-length c = search needs
@@ -84,9 +82,8 @@ same-length-2 c = search needs
 returns-4 : tie.Need-returns-4
 unfolding leftBy withPsw
 returns-4 c =
-    let back4 = c .before .before .before .before in
-    let back7 = back4 .before .before .before in
-    let back8 = back7 .before in
+    let back5 = c .before .before .before .before .before in
+    let back8 = back5 .before .before .before in
     let back9 = back8 .before in
     let back11 = back9 .before .before in
     let back12 = back11 .before in
@@ -95,13 +92,17 @@ returns-4 c =
     let back17 = back14 .before .before .before in
     let a = back17 .args in
     let i = back8 .program-interruption .ensures in
+    let psw = back13 .after-exception .result in
     λ x clock k standing before.
     let told = ap (λ t. t .ilc) (standing .ofText) in
+    let to = withPsw (leftBy k (a .after)) psw in
     excepted-interruption (host (a .designation) _ _) x standing (leftBy k (a .after)) (a .f) (back14 .if1 .left)
-    (sym (back12 .intercepts-operation .ensures) ∙ back11 .if2 .left) (ne-eqb _ 1 (back9 .if3 .left)) (back4 .interrupt .result)
-    (ap (leftBy k) (back7 .ended-with3 .ensures) ∙ back13 .after-exception .ensures x (leftBy k (a .after)) (a .f) told refl refl)
-    (i .1) (i .2 x told)
-    (back4 .interrupt .ensures x clock k (a .text) standing (subst (Before k (a .start)) (sym (back7 .ended-with3 .ensures)) (record { ofPsw = before .ofPsw; ofTimer = before .ofTimer; ofControl = before .ofControl; sixteen = before .sixteen })))
+    (sym (back12 .intercepts-operation .ensures) ∙ back11 .if2 .left) (ne-eqb _ 1 (back9 .if3 .left)) (c .interrupted .result)
+    (back13 .after-exception .ensures x (leftBy k (a .after)) (a .f) told refl refl)
+    (i .1) (i .4) (i .2 x told)
+    (left-taken (host (a .designation) _ _) (a .guest) k to _ (back5 .take .result) (c .interrupted .result)
+    (back5 .take .ensures (a .guest) refl refl refl x clock k to (a .text) standing refl (i .3)) (c .interrupted .ensures .0)
+    (c .interrupted .ensures .1 k before ∙ old-replaced k (leftBy k (a .after)) psw (back5 .take .result)))
 
 pub exception-spec : {M : Type 1} → statement M
 exception-spec =
@@ -117,8 +118,8 @@ exception-spec =
     ended-with-requires-2
     returns-3
     program-interruption-requires
-    ended-with-requires-3
-    interrupt-requires
+    take-requires
+    interrupted-requires
     same-length
     same-length-2
     returns-4)

@@ -3,10 +3,8 @@
 use mathlib.Core.Path.{ap, _∙_}
 use borrow.Author.Needs.{needs}
 use Rattle.machine.specs.Record.{pswOf}
-use Rattle.machine.specs.Psw.{withPsw}
 use Rattle.machine.specs.Host.{referenced, changed}
 use Rattle.address.specs.Operands.{markFrame}
-use Rattle.execute.specs.After.{leftBy}
 use Rattle.execute.proofs.Leaving.{areas-in-frame}
 use Rattle.execute.proofs.interrupt_open.Statement.{statement}
 use Rattle.execute.proofs.interrupt_open.Tie as tie
@@ -60,13 +58,7 @@ mark-text-requires : tie.Need-mark-text-requires
 mark-text-requires c κs = search needs
 
 mark-areas-requires : tie.Need-mark-areas-requires
-mark-areas-requires c κs =
-    let back20 = c .before .before .before .before .before .before .before .before .before .before .before .before .before .before .before .before .before .before .before .before in
-    let key = back20 .pre .0 .1 in
-    search needs
-
-ended-with-requires : tie.Need-ended-with-requires
-ended-with-requires c κs = search needs
+mark-areas-requires c κs = search needs
 
 same-length : tie.Need-same-length
 same-length c = search needs
@@ -75,18 +67,17 @@ same-length-2 : tie.Need-same-length-2
 same-length-2 c = search needs
 
 returns : tie.Need-returns
-unfolding leftBy withPsw pswOf
+unfolding pswOf
 returns c =
-    let back3 = c .before .before .before in
-    let back7 = back3 .before .before .before .before in
-    let back11 = back7 .before .before .before .before in
-    let back16 = back11 .before .before .before .before .before in
-    let back19 = back16 .before .before .before in
-    let back24 = back19 .before .before .before .before .before in
-    let a = back24 .args in
-    let ended = c .ended-with .ensures in (
-      (ap (λ d. d .event) ended, λ k. ap (leftBy k) ended ∙ ap (withPsw (leftBy k (a .after))) (λ i. record { left = back19 .word-at .ensures i; right = back16 .word-at2 .ensures i })),
-      (rw (back11 .put-areas .ensures) (areas-in-frame (a .storage .now) (a .frame) (a .after .psw) (a .i) (back24 .pre .1 .0) (back24 .pre .1 .1)), back3 .mark-areas .ensures ∙ ap (λ k. markFrame changed (a .frame) (markFrame referenced (a .frame) k)) (back7 .mark-text .ensures)),
+    let back2 = c .before .before in
+    let back6 = back2 .before .before .before .before in
+    let back10 = back6 .before .before .before .before in
+    let back14 = back10 .before .before .before .before in
+    let back17 = back14 .before .before .before in
+    let back22 = back17 .before .before .before .before .before in
+    let a = back22 .args in (
+      λ i. record { left = back17 .word-at .ensures i; right = back14 .word-at2 .ensures i; system370 = a .psw .system370 },
+      (λ k same. rw (back10 .put-areas .ensures k same) (areas-in-frame (a .storage .now) (a .frame) k (a .i) (back22 .pre .1 .0) (back22 .pre .1 .1)), back2 .mark-areas .ensures ∙ ap (λ k. markFrame changed (a .frame) (markFrame referenced (a .frame) k)) (back6 .mark-text .ensures)),
     )
 
 pub interrupt-open-spec : {M : Type 1} → statement M
@@ -110,7 +101,6 @@ interrupt-open-spec =
     put-areas-requires
     mark-text-requires
     mark-areas-requires
-    ended-with-requires
     same-length
     same-length-2
     returns)

@@ -1,14 +1,39 @@
 -- `execute::put_areas` meets its contract.
 -- Assumes nothing.
 use Prim.Native.Nat.{_+_}
-use mathlib.Core.Path.{refl, ap, _∙_}
+use mathlib.Core.Path.{refl, ap, sym, _∙_}
 use lib.Seq.{sets}
 use borrow.Author.Needs.{needs}
 use Rattle.machine.specs.Record.{pswBytes}
+use Rattle.machine.specs.Psw.{oldPsw}
+use Rattle.machine.specs.Interruptions.{fieldsBeside}
 use Rattle.machine.specs.Words.{wordBytes}
 use Rattle.execute.proofs.Words.{two-words}
 use Rattle.execute.proofs.put_areas.Statement.{statement}
 use Rattle.execute.proofs.put_areas.Tie as tie
+
+basic-control-requires : tie.Need-basic-control-requires
+basic-control-requires c κs = search needs
+
+old-psw-requires : tie.Need-old-psw-requires
+old-psw-requires c κs = search needs
+
+put-psw-requires : tie.Need-put-psw-requires
+put-psw-requires c κs = search needs
+
+same-length : tie.Need-same-length
+same-length c = search needs
+
+returns : tie.Need-returns
+unfolding fieldsBeside
+returns c =
+    let a = c .before .before .before .before .before .before .before .before .args in
+    λ k same.
+    rw (sym (c .before .before .before .before .before .before .basic-control .ensures k same) ∙ c .before .before .before .before .before .if1 .taken)
+    (c .before .before .put-psw .ensures ∙ ap (λ p. sets (a .part .now) (a .old) (pswBytes p)) (c .before .before .before .before .old-psw .ensures k same))
+
+put-psw-requires-2 : tie.Need-put-psw-requires-2
+put-psw-requires-2 c κs = search needs
 
 put-word-requires : tie.Need-put-word-requires
 put-word-requires c κs = search needs
@@ -19,61 +44,45 @@ add-put-word c = search needs
 put-word-requires-2 : tie.Need-put-word-requires-2
 put-word-requires-2 c κs = search needs
 
-put-word-requires-3 : tie.Need-put-word-requires-3
-put-word-requires-3 c κs = search needs
-
-add-put-word-2 : tie.Need-add-put-word-2
-add-put-word-2 c = search needs
-
-put-word-requires-4 : tie.Need-put-word-requires-4
-put-word-requires-4 c κs = search needs
-
-same-length : tie.Need-same-length
-same-length c = search needs
-
-returns : tie.Need-returns
-returns c =
-    let back4 = c .before .before .before .before in
-    let back7 = back4 .before .before .before in
-    let back11 = back7 .before .before .before .before in
-    let back15 = back11 .before .before .before .before in
-    let back18 = back15 .before .before .before in
-    rw (back4 .if1 .taken)
-    (c .before .before .put-word4 .ensures
-    ∙ ap (λ t. sets t (back18 .args .code + 4) (wordBytes (back18 .args .address)))
-    (back7 .put-word3 .ensures
-    ∙ ap (λ t. sets t (back18 .args .code) (wordBytes (back18 .args .word)))
-    (back11 .put-word2 .ensures
-    ∙ ap (λ t. sets t (back18 .args .old + 4) (wordBytes (back18 .args .psw .right))) (back15 .put-word .ensures)
-    ∙ two-words (back18 .args .part .now) (back18 .args .old) (wordBytes (back18 .args .psw .left)) (wordBytes (back18 .args .psw .right)) refl))
-    ∙ two-words (sets (back18 .args .part .now) (back18 .args .old) (pswBytes (back18 .args .psw))) (back18 .args .code) (wordBytes (back18 .args .word)) (wordBytes (back18 .args .address)) refl)
-
 same-length-2 : tie.Need-same-length-2
 same-length-2 c = search needs
 
 returns-2 : tie.Need-returns-2
+unfolding fieldsBeside oldPsw
 returns-2 c =
-    let back7 = c .before .before .before .before .before .before .before in
-    let back11 = back7 .before .before .before .before in
-    let back14 = back11 .before .before .before in
-    rw (c .if1 .left)
-    (c .before .before .before .put-word3 .ensures
-    ∙ ap (λ t. sets t (back14 .args .code) (wordBytes (back14 .args .word)))
-    (back7 .put-word2 .ensures
-    ∙ ap (λ t. sets t (back14 .args .old + 4) (wordBytes (back14 .args .psw .right))) (back11 .put-word .ensures)
-    ∙ two-words (back14 .args .part .now) (back14 .args .old) (wordBytes (back14 .args .psw .left)) (wordBytes (back14 .args .psw .right)) refl))
+    let a = c .before .before .before .before .before .before .before .before .before .before .before .before .before .before .before .before .args in
+    λ k same.
+    rw (sym (c .before .before .before .before .before .before .before .before .before .before .before .before .before .before .basic-control .ensures k same) ∙ c .before .before .before .before .before .before .before .before .before .before .before .before .before .if1 .left, same, c .before .before .before .before .if2 .taken)
+    (c .before .before .put-word2 .ensures
+    ∙ ap (λ t. sets t (a .code + 4) (wordBytes (a .address)))
+    (c .before .before .before .before .before .before .before .put-word .ensures ∙ ap (λ t. sets t (a .code) (wordBytes (a .word))) (c .before .before .before .before .before .before .before .before .before .before .before .put-psw2 .ensures))
+    ∙ two-words (sets (a .part .now) (a .old) (pswBytes (a .psw))) (a .code) (wordBytes (a .word)) (wordBytes (a .address)) refl)
+
+same-length-3 : tie.Need-same-length-3
+same-length-3 c = search needs
+
+returns-3 : tie.Need-returns-3
+unfolding fieldsBeside oldPsw
+returns-3 c =
+    let a = c .before .before .before .before .before .before .before .before .before .before .before .before .args in
+    λ k same.
+    rw (sym (c .before .before .before .before .before .before .before .before .before .before .basic-control .ensures k same) ∙ c .before .before .before .before .before .before .before .before .before .if1 .left, same, c .if2 .left)
+    (c .before .before .before .put-word .ensures ∙ ap (λ t. sets t (a .code) (wordBytes (a .word))) (c .before .before .before .before .before .before .before .put-psw2 .ensures))
 
 pub put-areas-spec : {M : Type 1} → statement M
 put-areas-spec =
     tie.close
     (tie.spec
+    basic-control-requires
+    old-psw-requires
+    put-psw-requires
+    same-length
+    returns
+    put-psw-requires-2
     put-word-requires
     add-put-word
     put-word-requires-2
-    put-word-requires-3
-    add-put-word-2
-    put-word-requires-4
-    same-length
-    returns
     same-length-2
-    returns-2)
+    returns-2
+    same-length-3
+    returns-3)

@@ -1,19 +1,20 @@
 -- `guard::name_tables` meets its contract.
 -- Assumes nothing.
 use mathlib.Core.Path.{_∙_}
+use mathlib.Core.Bool.{true, false}
 use borrow.Author.Needs.{needs}
 use borrow.Author.Tests.{eq-eqb, ne-eqb}
 use Rattle.machine.specs.Addresses.{formatGood}
 use Rattle.address.specs.Touching.{seen}
 use Rattle.address.proofs.Touches.{aligned-tableLeads, aligned-segmentLeads}
-use Rattle.guard.proofs.Guarded.{real-off, real-malformed, real-walked}
+use Rattle.guard.proofs.Guarded.{dat-by-bit, real-off, real-malformed, real-walked}
 use Rattle.guard.proofs.name_tables.Statement.{statement}
 use Rattle.guard.proofs.name_tables.Tie as tie
 
 returns : tie.Need-returns
 returns c =
     let start = c .before .before .before .before in
-    (λ frame named. named, real-off _ (start .args .guest) (start .args .designation) (start .args .storage .now) (seen (start .args .psw) _) (start .args .a) (ne-eqb _ _ (c .if1 .taken)))
+    (λ frame named. named, real-off _ (start .args .guest) (start .args .designation) (start .args .storage .now) (seen (start .args .psw) _) (start .args .a) (dat-by-bit (start .args .psw) false (start .pre .2) (ne-eqb _ _ (c .if1 .taken))))
 
 element-copy-out-cr0 : tie.Need-element-copy-out-cr0
 element-copy-out-cr0 c = search needs
@@ -28,7 +29,7 @@ returns-2 c =
       λ frame named. named,
       rw (c .exception-of .ensures)
           (real-malformed _ (start .args .guest) (start .args .designation) (start .args .storage .now) (seen (start .args .psw) _) (start .args .a)
-          (eq-eqb _ _ (c .before .before .before .if1 .left))
+          (dat-by-bit (start .args .psw) true (start .pre .2) (eq-eqb _ _ (c .before .before .before .if1 .left)))
           (ne-eqb _ _ (c .before .if2 .taken))),
     )
 
@@ -66,7 +67,7 @@ returns-3 c =
     let second = paged .name-through2 .ensures in (
       λ frame named. second .0 frame (first .0 frame named),
       real-walked _ (start .args .guest) (start .args .designation) (start .args .storage .now) (seen (start .args .psw) _) (start .args .a)
-          (eq-eqb _ _ (good .before .before .if1 .left))
+          (dat-by-bit (start .args .psw) true (start .pre .2) (eq-eqb _ _ (good .before .before .if1 .left)))
           (eq-eqb _ _ (good .if2 .left))
           _ _ _ _ _
           (led .table-leads .ensures)

@@ -4,7 +4,7 @@ use mathlib.Core.Path.{sym, _∙_}
 use borrow.Author.Needs.{needs}
 use Rattle.machine.proofs.Tests.{tests}
 use Rattle.machine.specs.Operations.{checkedAs}
-use Rattle.inspect.proofs.Accepting.{checked-length}
+use Rattle.inspect.proofs.Accepting.{checked-length, checked-long}
 use Rattle.inspect.proofs.checked_as.Statement.{statement}
 use Rattle.inspect.proofs.checked_as.Tie as tie
 
@@ -18,7 +18,7 @@ guest-of-requires : tie.Need-guest-of-requires
 guest-of-requires c κs = checked-length _ (sym (c .before .before .before .pre) ∙ c .enum-told .given .1)
 
 entry-good-requires : tie.Need-entry-good-requires
-entry-good-requires c κs = search needs
+entry-good-requires c κs = rw (c .guest-of .ensures) (checked-long _ (sym (c .before .before .before .before .pre) ∙ c .before .enum-told .given .1))
 
 returns : tie.Need-returns
 unfolding checkedAs

@@ -12,7 +12,7 @@ psw-at-requires : tie.Need-psw-at-requires
 psw-at-requires c κs = search needs
 
 returns : tie.Need-returns
-returns c = c .psw-at .ensures ∙ sym (part-psw _ _ _ _ (c .before .before .before .pre .1 .0) (omega arith))
+returns c = c .psw-at .ensures ∙ sym (part-psw _ _ _ _ (c .before .before .before .pre .1 .0) (c .before .before .before .args .system370) (omega arith))
 
 slice-aggregate-get-operand : tie.Need-slice-aggregate-get-operand
 slice-aggregate-get-operand c = search needs
@@ -27,7 +27,9 @@ psw-at-requires-2 : tie.Need-psw-at-requires-2
 psw-at-requires-2 c κs = search needs
 
 returns-2 : tie.Need-returns-2
-returns-2 c = c .psw-at2 .ensures ∙ ap (λ bytes. pswOf bytes 0) (c .before .before .before .get-operand .ensures)
+returns-2 c =
+    let system370 = c .before .before .before .before .before .before .before .args .system370 in
+    c .psw-at2 .ensures ∙ ap (λ bytes. pswOf system370 bytes 0) (c .before .before .before .get-operand .ensures)
 
 pub operand-psw-spec : {M : Type 1} → statement M
 operand-psw-spec =

@@ -9,7 +9,7 @@ use lib.Dec.{eqb}
 use Rattle.machine.specs.declared.Class.the-variants.{Lr, Ar, Sr, Bcr}
 use Rattle.machine.specs.Words.{bits}
 use Rattle.machine.specs.Psw.{withGeneral, conditionCode}
-use Rattle.machine.specs.Opcodes.{find, opcodeOf}
+use Rattle.machine.specs.Opcodes.{has, find, opcodeOf}
 use Rattle.machine.specs.Execute.{r1, next, finish, loadRegister, sumCode, sumOf, sumOverflows, differenceOf, differenceOverflows, summed, add, subtract, selected, branch, branchRegister, execute}
 use Rattle.machine.specs.Units.{intercepts}
 use Rattle.quick.proofs.Deciding.{length-one, listed, names-first, names-second, left-alone, decided}
@@ -48,14 +48,14 @@ same-length : tie.Need-same-length
 same-length c = search needs
 
 returns : tie.Need-returns
-unfolding find execute loadRegister intercepts
+unfolding has find execute loadRegister intercepts
 returns c =
     let back2 = c .before .before in
     let start = back2 .before .before .before .before in
     let a = start .args in
-    let known = listed (a .first) 0x18 Lr (search needs) refl refl in
+    let known = listed (a .psw .system370) (a .first) 0x18 Lr (search needs) refl refl in
     λ guard storage second base.
-    decided guard storage _ (a .psw) (a .kept) (a .first) second (a .value) (a .index) base (opcodeOf (a .first)) Lr known refl (λ x. refl) _
+    decided guard storage _ (a .psw) (a .kept) (a .first) second (a .value) (a .index) base (opcodeOf (a .psw .system370) (a .first)) Lr known refl (λ x. refl) _
     (λ x psw text named. ap (λ w. finish x (next x (withGeneral (x .cpu) (r1 x) w)) [] []) (names-second x text named))
     (back2 .set-step .result) storage _
     (back2 .set-step .ensures guard storage (a .first) second (a .value) (a .index) base (length-one (a .first) (start .pre .1)) refl)
@@ -64,14 +64,14 @@ same-length-2 : tie.Need-same-length-2
 same-length-2 c = search needs
 
 returns-2 : tie.Need-returns-2
-unfolding find execute add intercepts
+unfolding has find execute add intercepts
 returns-2 c =
     let back2 = c .before .before in
     let start = back2 .before .before .before .before .before in
     let a = start .args in
-    let known = listed (a .first) 0x1a Ar (search needs) refl refl in
+    let known = listed (a .psw .system370) (a .first) 0x1a Ar (search needs) refl refl in
     λ guard storage second base.
-    decided guard storage _ (a .psw) (a .kept) (a .first) second (a .value) (a .index) base (opcodeOf (a .first)) Ar known refl (λ x. refl) _
+    decided guard storage _ (a .psw) (a .kept) (a .first) second (a .value) (a .index) base (opcodeOf (a .psw .system370) (a .first)) Ar known refl (λ x. refl) _
     (λ x psw text named.
     let one = names-first x text named in
     let two = names-second x text named in
@@ -83,14 +83,14 @@ same-length-3 : tie.Need-same-length-3
 same-length-3 c = search needs
 
 returns-3 : tie.Need-returns-3
-unfolding find execute subtract intercepts
+unfolding has find execute subtract intercepts
 returns-3 c =
     let back2 = c .before .before in
     let start = back2 .before .before .before .before .before in
     let a = start .args in
-    let known = listed (a .first) 0x1b Sr (search needs) refl refl in
+    let known = listed (a .psw .system370) (a .first) 0x1b Sr (search needs) refl refl in
     λ guard storage second base.
-    decided guard storage _ (a .psw) (a .kept) (a .first) second (a .value) (a .index) base (opcodeOf (a .first)) Sr known refl (λ x. refl) _
+    decided guard storage _ (a .psw) (a .kept) (a .first) second (a .value) (a .index) base (opcodeOf (a .psw .system370) (a .first)) Sr known refl (λ x. refl) _
     (λ x psw text named.
     let one = names-first x text named in
     let two = names-second x text named in
@@ -102,14 +102,14 @@ same-length-4 : tie.Need-same-length-4
 same-length-4 c = search needs
 
 returns-4 : tie.Need-returns-4
-unfolding find execute branchRegister intercepts
+unfolding has find execute branchRegister intercepts
 returns-4 c =
     let back2 = c .before .before in
     let start = back2 .before .before .before .before .before in
     let a = start .args in
-    let known = listed (a .first) 0x07 Bcr (search needs) refl refl in
+    let known = listed (a .psw .system370) (a .first) 0x07 Bcr (search needs) refl refl in
     λ guard storage second base.
-    decided guard storage _ (a .psw) (a .kept) (a .first) second (a .value) (a .index) base (opcodeOf (a .first)) Bcr known refl (λ x. refl) _
+    decided guard storage _ (a .psw) (a .kept) (a .first) second (a .value) (a .index) base (opcodeOf (a .psw .system370) (a .first)) Bcr known refl (λ x. refl) _
     (λ x psw text named.
     let two = names-second x text named in
     let mask = ap (λ u. not (eqb (bits 16 12 15 (u .first)) 0) && selected (bits 16 8 11 (u .first)) (conditionCode (x .cpu))) (sym text) in

@@ -10,7 +10,7 @@ use Rattle.machine.specs.Psw.{withConditionCode}
 use Rattle.adder.proofs.Sums.{small-code}
 use Rattle.quick.proofs.Completing.{sum-done}
 use Rattle.quick.proofs.Deciding.{length-one, left-alone}
-use Rattle.quick.proofs.Sparing.{advance-spares, code-spares}
+use Rattle.quick.proofs.Sparing.{advance-spares, code-spares, both-spare}
 use Rattle.quick.proofs.sum_step.Statement.{statement}
 use Rattle.quick.proofs.sum_step.Tie as tie
 
@@ -57,7 +57,7 @@ returns-2 c =
     let fits : Fits w32 (a .psw .left) = search needs in
     λ guard storage second v index base.
     sum-done guard storage _ (a .psw) (a .kept) (a .first) second v index base _ (back5 .mark-fetched .ensures) (c .done .result) psw (a .first / 16 % 16) (a .sum .value) (c .done .ensures)
-    (advance-spares coded psw 1 moved ∙ code-spares (a .psw) coded (a .sum .code) (fits .fits) small code)
+    (both-spare (a .psw) coded psw (code-spares (a .psw) coded (a .sum .code) (fits .fits) small code) (advance-spares coded psw 1 moved))
     (a .sum .overflow) (λ k same. sym (back8 .if1 .left) ∙ back8 .before .interrupts .ensures k same) coded
     (λ k same. code k same ∙ ap (λ n. withConditionCode k n .psw) (back11 .pre .2)) moved (length-one (a .first) (back11 .pre .1)) refl
 

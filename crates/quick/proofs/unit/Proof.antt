@@ -2,11 +2,13 @@
 -- Assumes nothing.
 use Prim.Native.Nat.{_/_, _%_}
 use native.Mathlib.Omega.{arith}
-use mathlib.Core.Path.{_≡_, refl, ap, sym, _∙_}
+use mathlib.Core.Path.{_≡_, refl, ap, sym, subst, _∙_}
 use lib.ListN.{length, getD}
 use borrow.Author.Needs.{needs}
+use Rattle.machine.specs.Host.{view}
 use Rattle.machine.specs.Opcodes.{opcodeOf}
-use Rattle.text.specs.Fetching.{whole}
+use Rattle.machine.specs.Units.{started, instruction}
+use Rattle.text.specs.Fetching.{FetchedAs, whole}
 use Rattle.text.proofs.Order.{fetch-whole}
 use Rattle.quick.specs.Stepping.{shortText, textFrame, doneOf}
 use Rattle.quick.proofs.unit.Statement.{statement}
@@ -81,7 +83,9 @@ returns-2 c =
     let none : text .result .want ≡ 0 = omega (arith, back10 .if1 .left) in (
       λ done. (
         λ h g clock k stored keyed same general sixteen kept.
-            fetch-whole h g clock k (opcodeOf first) (whole (shortText first second) (textFrame (a .kept))) (doneOf k (step .result)) (text .ensures .0 none h g clock k stored same (kept .text))
+            fetch-whole h g clock k (opcodeOf (a .psw .system370) first) (whole (shortText first second) (textFrame (a .kept))) (doneOf k (step .result))
+            (subst (λ p. FetchedAs h g clock k (instruction (started g clock (view g h) k 1)) (opcodeOf (p .system370) first) (whole (shortText first second) (textFrame (a .kept)))) same
+            (text .ensures .0 none h g clock k stored same (kept .text)))
             refl
             (step .ensures .0 done .0 h g clock k stored keyed same (record {
               sixteen = ap length general ∙ sixteen;

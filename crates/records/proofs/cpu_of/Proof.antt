@@ -14,6 +14,9 @@ add-word-at c = search needs
 word-at-requires-2 : tie.Need-word-at-requires-2
 word-at-requires-2 c κs = search needs
 
+system370-of-requires : tie.Need-system370-of-requires
+system370-of-requires c κs = search needs
+
 double-at-requires : tie.Need-double-at-requires
 double-at-requires c κs = search needs
 
@@ -34,6 +37,7 @@ cpu-of-spec =
     word-at-requires
     add-word-at
     word-at-requires-2
+    system370-of-requires
     double-at-requires
     registers-at-requires
     registers-at-requires-2

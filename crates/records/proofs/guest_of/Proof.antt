@@ -14,11 +14,14 @@ shared-slice-read-t5 c = search needs
 shared-slice-read-t7 : tie.Need-shared-slice-read-t7
 shared-slice-read-t7 c = search needs
 
+shared-slice-read-t9 : tie.Need-shared-slice-read-t9
+shared-slice-read-t9 c = search needs
+
 half-at-requires : tie.Need-half-at-requires
 half-at-requires c κs = search needs
 
-cast-t9 : tie.Need-cast-t9
-cast-t9 c = search needs
+cast-t11 : tie.Need-cast-t11
+cast-t11 c = search needs
 
 word-at-requires : tie.Need-word-at-requires
 word-at-requires c κs = search needs
@@ -26,23 +29,20 @@ word-at-requires c κs = search needs
 half-at-requires-2 : tie.Need-half-at-requires-2
 half-at-requires-2 c κs = search needs
 
-cast-t14 : tie.Need-cast-t14
-cast-t14 c = search needs
+cast-t16 : tie.Need-cast-t16
+cast-t16 c = search needs
 
 half-at-requires-3 : tie.Need-half-at-requires-3
 half-at-requires-3 c κs = search needs
 
-cast-t16 : tie.Need-cast-t16
-cast-t16 c = search needs
+cast-t18 : tie.Need-cast-t18
+cast-t18 c = search needs
 
 double-at-requires : tie.Need-double-at-requires
 double-at-requires c κs = search needs
 
 double-at-requires-2 : tie.Need-double-at-requires-2
 double-at-requires-2 c κs = search needs
-
-shared-slice-read-t20 : tie.Need-shared-slice-read-t20
-shared-slice-read-t20 c = search needs
 
 shared-slice-read-t22 : tie.Need-shared-slice-read-t22
 shared-slice-read-t22 c = search needs
@@ -52,6 +52,9 @@ shared-slice-read-t24 c = search needs
 
 shared-slice-read-t26 : tie.Need-shared-slice-read-t26
 shared-slice-read-t26 c = search needs
+
+shared-slice-read-t28 : tie.Need-shared-slice-read-t28
+shared-slice-read-t28 c = search needs
 
 returns : tie.Need-returns
 unfolding guestOf
@@ -64,17 +67,18 @@ guest-of-spec =
     shared-slice-read-t3
     shared-slice-read-t5
     shared-slice-read-t7
+    shared-slice-read-t9
     half-at-requires
-    cast-t9
+    cast-t11
     word-at-requires
     half-at-requires-2
-    cast-t14
-    half-at-requires-3
     cast-t16
+    half-at-requires-3
+    cast-t18
     double-at-requires
     double-at-requires-2
-    shared-slice-read-t20
     shared-slice-read-t22
     shared-slice-read-t24
     shared-slice-read-t26
+    shared-slice-read-t28
     returns)

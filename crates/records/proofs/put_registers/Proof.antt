@@ -60,7 +60,7 @@ returns c =
     let words = c .before .before .before .before .args .x .words in
     let long : length words ≡ 16 = search needs in
     let all : take (c .before .loop .i) words ≡ words = take-all (c .before .loop .i) words (omega arith) in
-    rw all at (c .before .loop .inv .2)
+    rw (take-all 16 words (omega arith), ← all) (c .before .loop .inv .2)
 
 pub put-registers-spec : {M : Type 1} → statement M
 put-registers-spec =

@@ -1,4 +1,4 @@
--- `refusals::after_storage` meets its contract.
+-- `refusals::after_storage` meets its contract. Refusals 7 and 8 count where the verdict accepts.
 -- Assumes nothing.
 use borrow.Author.Needs.{needs}
 use Rattle.refusals.specs.Parts.{firstRefusal}
@@ -11,18 +11,15 @@ enum-told c = search needs
 reserved-verdict-requires : tie.Need-reserved-verdict-requires
 reserved-verdict-requires c κs = search needs
 
-access-verdict-requires : tie.Need-access-verdict-requires
-access-verdict-requires c κs = search needs
-
-first-refusal-requires : tie.Need-first-refusal-requires
-first-refusal-requires c κs = search needs
+access-after-requires : tie.Need-access-after-requires
+access-after-requires c κs = search needs
 
 enum-known-v : tie.Need-enum-known-v
 enum-known-v c = search needs
 
 returns : tie.Need-returns
 unfolding firstRefusal
-returns c = rw (c .before .before .before .enum-told .given .1, c .first-refusal .ensures, c .before .before .reserved-verdict .ensures (c .before .before .before .before .before .before .pre), c .before .access-verdict .ensures)
+returns c = rw (c .before .before .enum-told .given .1, c .access-after .ensures, c .before .reserved-verdict .ensures)
 
 returns-2 : tie.Need-returns-2
 unfolding firstRefusal
@@ -34,8 +31,7 @@ after-storage-spec =
     (tie.spec
     enum-told
     reserved-verdict-requires
-    access-verdict-requires
-    first-refusal-requires
+    access-after-requires
     enum-known-v
     returns
     returns-2)

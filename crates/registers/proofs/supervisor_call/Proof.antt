@@ -1,11 +1,15 @@
 -- `registers::supervisor_call` meets its contract.
 -- Assumes nothing.
+use Prim.Native.Nat.{_%_}
+use native.Mathlib.Omega.{arith}
+use mathlib.Core.Path.{refl, ap, _∙_}
 use borrow.Author.Needs.{needs}
-use mathlib.Core.Path.{refl}
-use Rattle.registers.proofs.Ending.{supervisor-called}
-use borrow.Author.Needs.{needs}
+use Rattle.machine.specs.Psw.{withPsw}
 use Rattle.machine.specs.Host.{host}
-use Rattle.execute.specs.After.{leftBy}
+use Rattle.execute.specs.After.{cpuBy}
+use Rattle.execute.proofs.Leaving.{left-taken}
+use Rattle.execute.proofs.Exceptions.{ilc-of-word}
+use Rattle.registers.proofs.Ending.{supervisor-called}
 use Rattle.registers.proofs.supervisor_call.Statement.{statement}
 use Rattle.registers.proofs.supervisor_call.Tie as tie
 
@@ -27,11 +31,14 @@ cast-advanced c = search needs
 advanced-requires : tie.Need-advanced-requires
 advanced-requires c κs = search needs
 
+take-requires : tie.Need-take-requires
+take-requires c κs = search needs
+
 with-psw-requires : tie.Need-with-psw-requires
 with-psw-requires c κs = search needs
 
-interrupt-requires : tie.Need-interrupt-requires
-interrupt-requires c κs = search needs
+interrupted-requires : tie.Need-interrupted-requires
+interrupted-requires c κs = search needs
 
 same-length : tie.Need-same-length
 same-length c = search needs
@@ -40,16 +47,23 @@ same-length-2 : tie.Need-same-length-2
 same-length-2 c = search needs
 
 returns : tie.Need-returns
+unfolding withPsw
 returns c =
-    let back4 = c .before .before .before .before in
-    let back7 = back4 .before .before .before in
-    let back8 = back7 .before in
-    let back14 = back8 .before .before .before .before .before .before in
-    let a = back14 .args in
+    let back1 = c .before in
+    let back6 = back1 .before .before .before .before .before in
+    let back9 = back6 .before .before .before in
+    let back15 = back9 .before .before .before .before .before .before in
+    let a = back15 .args in
+    let psw = back9 .advanced .result in
+    let took = back6 .take .result in
+    let to = withPsw (a .cpu) psw in
     λ clock x standing.
-    supervisor-called (host (a .designation) _ _) x standing (back14 .pre .short) (back4 .interrupt .result) (back8 .advanced .result)
-    (leftBy (a .cpu) (back7 .with-psw .result)) (back8 .advanced .ensures (a .cpu) refl) (back7 .with-psw .ensures .1)
-    (back4 .interrupt .ensures x clock (a .cpu) (a .text) standing (back7 .with-psw .ensures .2))
+    supervisor-called (host (a .designation) _ _) x standing (back15 .pre .short) (c .interrupted .result) psw to (back9 .advanced .ensures (a .cpu) refl) refl
+    (left-taken (host (a .designation) _ _) (a .guest) (a .cpu) to _ took (c .interrupted .result)
+    (back6 .take .ensures (a .guest) refl refl refl x clock (a .cpu) to (a .text) standing refl
+    (ilc-of-word (a .text .ilc) (a .text .first % 256) (back15 .pre .short) (omega arith)))
+    (c .interrupted .ensures .0)
+    (c .interrupted .ensures .1 (a .cpu) (back1 .with-psw .ensures .2) ∙ ap (λ k. cpuBy (a .cpu) k took) (back1 .with-psw .ensures .1)))
 
 pub supervisor-call-spec : {M : Type 1} → statement M
 supervisor-call-spec =
@@ -61,8 +75,9 @@ supervisor-call-spec =
     add-t15
     cast-advanced
     advanced-requires
+    take-requires
     with-psw-requires
-    interrupt-requires
+    interrupted-requires
     same-length
     same-length-2
     returns)

@@ -3,30 +3,40 @@
 use Prim.Native.Nat.{ℕ, _+_, _-_, _^_, _≤_, _<_}
 use native.Mathlib.Omega.{arith}
 use mathlib.Core.Path.{_≡_, refl, ap, sym, subst, _∙_}
+use mathlib.Core.Bool.{_&&_}
 use mathlib.Core.List.{List}
 use lib.ListN.{length, getD}
 use mir.Syntax.{w32}
 use mir.Val.{Fits}
 use borrow.Author.Needs.{needs}
 use Rattle.machine.specs.declared.Numbers.{Numbers}
-use Rattle.machine.specs.Record.{guestOf}
+use Rattle.machine.specs.Record.{system370Mode, Bounded}
+use Rattle.machine.specs.Interval.{period, residueAfter}
 use Rattle.machine.specs.Time.{clockAfter, charged}
-use Rattle.machine.specs.Record.{Bounded}
-use Rattle.run.specs.Running.{machineAt, Remains}
-use Rattle.run.proofs.Steps.{remains-start, budget-ends, one-more, exit-ends, exit-ended}
+use Rattle.machine.specs.Units.{unit}
+use Rattle.machine.specs.Run.{goes}
+use Rattle.execute.specs.After.{leftBy}
+use Rattle.run.specs.Running.{ofXa, machineAt, OfGuest, Remains, afterStreak}
+use Rattle.run.proofs.Steps.{of-mode, charged-mode, remains-start}
 use Rattle.run.proofs.Streaking.{streak-more}
+use Rattle.run.proofs.Remaining.{budget-ends, one-more, exit-ends}
+use Rattle.run.proofs.Whole.{reaches, Begun, begun-at, comes-at, goes-to, stops-to, faults-to, ended-so}
 use Rattle.run.proofs.run.Statement.{statement}
 use Rattle.run.proofs.run.Tie as tie
 
 abbrev Inv-loop : tie.InvT-loop
-Inv-loop storage₀ keys₀ designation guest clock time budget cpu₀ now₀ units₀ pace₀ storage keys cpu now units pace =
+Inv-loop storage₀ keys₀ designation guest clock time budget request residue timer cpu₀ now₀ units₀ asked₀ rest₀ pace₀ storage keys cpu now units asked rest pace =
     (units ≤ budget) × (length storage ≡ length storage₀) × (length keys ≡ length keys₀) × Bounded cpu
-    × ((n : Numbers) (d : List ℕ) → n .designation ≡ designation → n .time ≡ time → length d ≡ 200 → guestOf d ≡ guest
-    → Remains n budget (machineAt d cpu₀ now₀ storage₀ keys₀) units (machineAt d cpu now storage keys))
+    × ((n : Numbers) (d : List ℕ) → n .designation ≡ designation → n .time ≡ time → OfGuest guest d
+    → Remains n budget (machineAt guest d cpu₀ asked₀ rest₀ now₀ storage₀ keys₀) units (machineAt guest d cpu asked rest now storage keys))
+    × (cpu .psw .system370 ≡ system370Mode (guest .mode)) × (rest < period)
 
 abbrev μ-loop : tie.MeasureT-loop
-μ-loop storage₀ keys₀ designation guest clock time budget cpu₀ now₀ units₀ pace₀ storage keys cpu now units pace =
+μ-loop storage₀ keys₀ designation guest clock time budget request residue timer cpu₀ now₀ units₀ asked₀ rest₀ pace₀ storage keys cpu now units asked rest pace =
     budget - units
+
+active-requires : tie.Need-active-requires Inv-loop μ-loop
+active-requires c κs = tt
 
 loop-holds : tie.Need-loop-holds Inv-loop μ-loop
 loop-holds c = (
@@ -37,10 +47,12 @@ loop-holds c = (
     left = search needs;
     right = search needs;
     timer = search needs;
-    control = record { long = search needs; small = λ i. let fits : Fits w32 (getD (c .before .before .args .start .control .words) i 0) = search needs in fits .fits };
-    general = record { long = search needs; small = λ i. let fits : Fits w32 (getD (c .before .before .args .start .general .words) i 0) = search needs in fits .fits };
+    control = record { long = search needs; small = λ i. let fits : Fits w32 (getD (c .before .before .before .args .start .control .words) i 0) = search needs in fits .fits };
+    general = record { long = search needs; small = λ i. let fits : Fits w32 (getD (c .before .before .before .args .start .general .words) i 0) = search needs in fits .fits };
   },
-  λ n d designated timed long here. remains-start n _ _,
+  λ n d designated timed of. remains-start n _ _,
+  c .before .before .before .pre .0 .2,
+  c .before .before .before .pre .1 .1,
 )
 
 sub-paced-streak : tie.Need-sub-paced-streak Inv-loop μ-loop
@@ -48,16 +60,16 @@ sub-paced-streak c = search needs
 
 paced-streak-requires : tie.Need-paced-streak-requires Inv-loop μ-loop
 paced-streak-requires c κs =
-    let pre = c .before .before .before .before .before .before .pre in
+    let pre = c .before .before .before .before .before .before .before .pre in
     let inv = c .before .before .before .loop .inv in
-    (pre .0, omega (arith, pre .1, inv .1, inv .2), inv .3)
+    (pre .0 .0, omega (arith, pre .0 .1, inv .1, inv .2), inv .3, inv .5)
 
 after-streak-requires : tie.Need-after-streak-requires Inv-loop μ-loop
 after-streak-requires c κs = tt
 
 add-units : tie.Need-add-units Inv-loop μ-loop
 add-units c =
-    let start = c .before .before .before .before .before .before .before .before .before .before .before .before .before in
+    let start = c .before .before .before .before .before .before .before .before .before .before .before .before .before .before in
     let small : start .args .budget < 2 ^ 32 = search needs in
     let few = c .before .before .before .before .before .before .paced-streak .ensures .0 in
     record { fits = omega (arith, small, few, c .before .before .before .before .before .before .before .before .before .loop-test .taken) }
@@ -65,17 +77,86 @@ add-units c =
 pace-after-requires : tie.Need-pace-after-requires Inv-loop μ-loop
 pace-after-requires c κs = tt
 
+find-due-requires : tie.Need-find-due-requires Inv-loop μ-loop
+find-due-requires c κs = (c .before .before .before .before .before .before .before .before .before .before .before .before .before .before .before .before .before .pre .0 .0, c .before .before .before .before .before .before .before .before .before .before .before .before .before .before .active .ensures)
+
+pending-requires : tie.Need-pending-requires Inv-loop μ-loop
+pending-requires c κs = tt
+
+both-requires : tie.Need-both-requires Inv-loop μ-loop
+both-requires c κs = tt
+
+is-shut-requires : tie.Need-is-shut-requires Inv-loop μ-loop
+is-shut-requires c κs = tt
+
 unit-requires : tie.Need-unit-requires Inv-loop μ-loop
 unit-requires c κs =
-    let pre = c .before .before .before .before .before .before .before .before .before .before .before .before .before .before .before .before .before .pre in
-    let inv = c .before .before .before .before .before .before .before .before .before .before .before .before .before .before .loop .inv in
-    (pre .0, omega (arith, pre .1, inv .1, inv .2, c .before .before .before .before .before .before .before .before .before .storage .given, c .before .before .before .before .before .before .before .keys .given))
+    let pre = c .before .before .before .before .before .before .before .before .before .before .before .before .before .before .before .before .before .before .before .before .before .before .before .pre in
+    let inv = c .before .before .before .before .before .before .before .before .before .before .before .before .before .before .before .before .before .before .before .loop .inv in
+    (pre .0 .0, omega (arith, pre .0 .1, inv .1, inv .2, c .before .before .before .before .before .before .before .before .before .before .before .before .before .before .storage .given, c .before .before .before .before .before .before .before .before .before .before .before .before .keys .given))
+
+completed-requires : tie.Need-completed-requires Inv-loop μ-loop
+completed-requires c κs = tt
+
+both-requires-2 : tie.Need-both-requires-2 Inv-loop μ-loop
+both-requires-2 c κs = tt
+
+fault-end-requires : tie.Need-fault-end-requires Inv-loop μ-loop
+fault-end-requires c κs = tt
+
+same-length : tie.Need-same-length Inv-loop μ-loop
+same-length c = omega (arith, c .before .before .before .before .before .before .before .before .before .before .before .before .before .before .before .before .before .before .before .before .before .before .before .before .before .before .before .before .loop .inv .1, c .before .before .before .before .before .before .before .before .before .before .before .before .before .before .before .before .before .before .before .before .before .before .before .storage .given, c .before .before .before .before .before .before .before .storage2 .given)
+
+same-length-2 : tie.Need-same-length-2 Inv-loop μ-loop
+same-length-2 c = omega (arith, c .before .before .before .before .before .before .before .before .before .before .before .before .before .before .before .before .before .before .before .before .before .before .before .before .before .before .before .before .loop .inv .2, c .before .before .before .before .before .before .before .before .before .before .before .before .before .before .before .before .before .before .before .before .before .keys .given, c .before .before .before .before .before .keys2 .given)
+
+returns : tie.Need-returns Inv-loop μ-loop
+returns c =
+    let start = c .before .before .before .before .before .before .before .before .before .before .before .before .before .before .before .before .before .before .before .before .before .before .before .before .before .before .before .before .before .before .before .before in
+    let a = start .args in
+    let timer = c .before .before .before .before .before .before .before .before .before .before .before .before .before .before .before .before .before .before .before .before .before .before .before .before .before .before .before .before .before .active in
+    let loop = c .before .before .before .before .before .before .before .before .before .before .before .before .before .before .before .before .before .before .before .before .before .before .before .before .before .before .before .before .loop in
+    let inv = loop .inv in
+    let streak = c .before .before .before .before .before .before .before .before .before .before .before .before .before .before .before .before .before .before .before .before .before .before .before .before .paced-streak in
+    let after = c .before .before .before .before .before .before .before .before .before .before .before .before .before .before .before .before .before .before .before .after-streak in
+    let same = after .ensures ∙ of-mode (loop .cpu .psw .system370) (afterStreak (loop .cpu) (streak .result)) (streak .ensures .1 .architecture) in
+    let bounded = subst Bounded (sym same) (streak .ensures .1 .bounded) in
+    let kind = ap (λ k. k .psw .system370) (after .ensures) ∙ inv .5 in
+    let remains : (n : Numbers) (d : List ℕ) → n .designation ≡ a .designation → n .time ≡ a .time → OfGuest (a .guest) d
+    → Remains n (a .budget) (machineAt (a .guest) d (a .start) (a .request) (a .residue) (a .clock) (a .storage .now) (a .keys .now)) (loop .units + streak .result .units)
+    (machineAt (a .guest) d (after .result) (loop .asked) (loop .rest) (streak .result .clock) (streak .last .0) (streak .last .1 .0)) =
+    λ n d designated timed of.
+    streak-more n (a .budget) _ (machineAt (a .guest) d (loop .cpu) (loop .asked) (loop .rest) (loop .now) (loop .storage) (loop .keys)) _ (loop .units) (streak .result .units) (inv .4 n d designated timed of)
+    (subst (λ k. Remains n (a .budget - loop .units) (machineAt (a .guest) d (loop .cpu) (loop .asked) (loop .rest) (loop .now) (loop .storage) (loop .keys)) (streak .result .units)
+    (machineAt (a .guest) d k (loop .asked) (loop .rest) (streak .result .clock) (streak .last .0) (streak .last .1 .0))) (sym same)
+    (streak .ensures .1 .remains n d (loop .asked) (loop .rest) designated timed of)) in
+    let due = c .before .before .before .before .before .before .before .before .before .before .before .before .before .before .find-due in
+    let both = c .before .before .before .before .before .before .before .before .before .before .before .before .both in
+    let done = c .before .before .before .before .before .before .before .before .unit in
+    let begun : Begun (a .designation) (a .time) (a .guest) (loop .asked) (loop .rest) (streak .last .0) (due .result) (both .result) = record {
+      found = due .ensures;
+      told = both .ensures ∙ (λ i. timer .ensures i && c .before .before .before .before .before .before .before .before .before .before .before .before .before .pending .ensures i);
+    } in
+    let seen = sym (c .before .before .both2 .ensures ∙ (λ i. c .before .before .before .before .before .before .before .before .before .before .before .is-shut .ensures i && c .before .before .before .completed .ensures i)) ∙ c .before .if2 .taken in
+    λ n d designated timed of.
+    ended-so
+    (exit-ends n (a .budget) _ (loop .units + streak .result .units) (machineAt (a .guest) d (after .result) (loop .asked) (loop .rest) (streak .result .clock) (streak .last .0) (streak .last .1 .0)) (remains n d designated timed of) (c .before .before .before .before .before .before .before .before .before .before .before .before .before .before .before .before .if1 .taken)
+    (faults-to n (a .guest) d of (after .result) bounded kind (loop .asked) (loop .rest) (inv .6) (streak .result .clock) (streak .last .0) (streak .last .1 .0) (due .result) (both .result) (begun-at designated timed (a .guest) (loop .asked) (loop .rest) (streak .last .0) (due .result) (both .result) begun) (done .result) (done .last .0) (done .last .1 .0) (comes-at designated (a .guest) (after .result) (streak .result .clock) (streak .last .0) (streak .last .1 .0) (due .result) (both .result) (done .result) (done .last .0) (done .last .1 .0) (c .before .before .before .before .before .before .before .before .before .before .before .is-shut .ensures) (done .ensures)) seen))
+    (c .fault-end .ensures)
 
 state-after-requires : tie.Need-state-after-requires Inv-loop μ-loop
 state-after-requires c κs = tt
 
-completed-requires : tie.Need-completed-requires Inv-loop μ-loop
-completed-requires c κs = tt
+completed-requires-2 : tie.Need-completed-requires-2 Inv-loop μ-loop
+completed-requires-2 c κs = tt
+
+tick-requires : tie.Need-tick-requires Inv-loop μ-loop
+tick-requires c κs =
+    let start = c .before .before .before .before .before .before .before .before .before .before .before .before .before .before .before .before .before .before .before .before .before .before .before .before .before .before .before .before .before .before .before .before .before .before .before in
+    let a = start .args in
+    let loop = c .before .before .before .before .before .before .before .before .before .before .before .before .before .before .before .before .before .before .before .before .before .before .before .before .before .before .before .before .before .before .before .loop in
+    let due = c .before .before .before .before .before .before .before .before .before .before .before .before .before .before .before .before .before .find-due in
+    (loop .inv .6, start .pre .1 .0, reaches (a .designation) (a .guest) (c .before .before .before .before .before .before .before .before .before .before .before .before .before .before .before .before .before .before .before .before .before .before .before .before .before .before .before .paced-streak .last .0) (c .before .before .before .before .before .before .before .before .before .before .before .unit .last .0) (loop .rest) (a .time) (due .result) (due .ensures) (c .before .before .before .before .before .before .before .before .before .before .storage2 .given))
 
 charged-requires : tie.Need-charged-requires Inv-loop μ-loop
 charged-requires c κs = tt
@@ -85,116 +166,161 @@ clock-after-requires c κs = tt
 
 add-units-2 : tie.Need-add-units-2 Inv-loop μ-loop
 add-units-2 c =
-    let start = c .before .before .before .before .before .before .before .before .before .before .before .before .before .before .before .before .before .before .before .before .before .before .before .before .before .before .before in
+    let start = c .before .before .before .before .before .before .before .before .before .before .before .before .before .before .before .before .before .before .before .before .before .before .before .before .before .before .before .before .before .before .before .before .before .before .before .before .before .before .before .before in
     let small : start .args .budget < 2 ^ 32 = search needs in
-    record { fits = omega (arith, small, c .before .before .before .before .before .before .before .before .before .before .before .before .if1 .taken) }
+    record { fits = omega (arith, small, c .before .before .before .before .before .before .before .before .before .before .before .before .before .before .before .before .before .before .before .before .before .before .before .before .if1 .taken) }
 
 loop-less : tie.Need-loop-less Inv-loop μ-loop
-loop-less c = omega (arith, c .before .before .before .before .before .before .before .before .before .before .before .before .if1 .taken)
+loop-less c = omega (arith, c .before .before .before .before .before .before .before .before .before .before .before .before .before .before .before .before .before .before .before .before .before .before .before .before .if1 .taken)
 
 loop-again : tie.Need-loop-again Inv-loop μ-loop
 loop-again c =
-    let start = c .before .before .before .before .before .before .before .before .before .before .before .before .before .before .before .before .before .before .before .before .before .before .before .before .before .before .before in
+    let start = c .before .before .before .before .before .before .before .before .before .before .before .before .before .before .before .before .before .before .before .before .before .before .before .before .before .before .before .before .before .before .before .before .before .before .before .before .before .before .before .before in
     let a = start .args in
-    let loop = c .before .before .before .before .before .before .before .before .before .before .before .before .before .before .before .before .before .before .before .before .before .before .before .before .loop in
+    let timer = c .before .before .before .before .before .before .before .before .before .before .before .before .before .before .before .before .before .before .before .before .before .before .before .before .before .before .before .before .before .before .before .before .before .before .before .before .before .active in
+    let loop = c .before .before .before .before .before .before .before .before .before .before .before .before .before .before .before .before .before .before .before .before .before .before .before .before .before .before .before .before .before .before .before .before .before .before .before .before .loop in
     let inv = loop .inv in
-    let streak = c .before .before .before .before .before .before .before .before .before .before .before .before .before .before .before .before .before .before .before .before .paced-streak in
-    let after = c .before .before .before .before .before .before .before .before .before .before .before .before .before .before .before .after-streak in
-    let bounded = subst Bounded (sym (after .ensures)) (streak .ensures .1 .bounded) in
-    let remains : (n : Numbers) (d : List ℕ) → n .designation ≡ a .designation → n .time ≡ a .time → length d ≡ 200 → guestOf d ≡ a .guest
-    → Remains n (a .budget) (machineAt d (a .start) (a .clock) (a .storage .now) (a .keys .now)) (loop .units + streak .result .units)
-    (machineAt d (after .result) (streak .result .clock) (streak .last .0) (streak .last .1 .0)) =
-    λ n d designated timed long here.
-    streak-more n (a .budget) _ (machineAt d (loop .cpu) (loop .now) (loop .storage) (loop .keys)) _ (loop .units) (streak .result .units) (inv .4 n d designated timed long here)
-    (subst (λ k. Remains n (a .budget - loop .units) (machineAt d (loop .cpu) (loop .now) (loop .storage) (loop .keys)) (streak .result .units) (machineAt d k (streak .result .clock) (streak .last .0) (streak .last .1 .0))) (sym (after .ensures))
-    (streak .ensures .1 .remains n d designated timed long here)) in
-    let unit = c .before .before .before .before .before .before .before .before .before .unit in
-    let charged′ = c .before .charged in (
-      omega (arith, c .before .before .before .before .before .before .before .before .before .before .before .before .if1 .taken),
-      omega (arith, inv .1, c .before .before .before .before .before .before .before .before .before .before .before .before .before .before .before .before .before .before .before .storage .given, c .before .before .before .before .before .before .before .before .storage2 .given),
-      omega (arith, inv .2, c .before .before .before .before .before .before .before .before .before .before .before .before .before .before .before .before .before .keys .given, c .before .before .before .before .before .before .keys2 .given),
+    let streak = c .before .before .before .before .before .before .before .before .before .before .before .before .before .before .before .before .before .before .before .before .before .before .before .before .before .before .before .before .before .before .before .before .paced-streak in
+    let after = c .before .before .before .before .before .before .before .before .before .before .before .before .before .before .before .before .before .before .before .before .before .before .before .before .before .before .before .after-streak in
+    let same = after .ensures ∙ of-mode (loop .cpu .psw .system370) (afterStreak (loop .cpu) (streak .result)) (streak .ensures .1 .architecture) in
+    let bounded = subst Bounded (sym same) (streak .ensures .1 .bounded) in
+    let kind = ap (λ k. k .psw .system370) (after .ensures) ∙ inv .5 in
+    let remains : (n : Numbers) (d : List ℕ) → n .designation ≡ a .designation → n .time ≡ a .time → OfGuest (a .guest) d
+    → Remains n (a .budget) (machineAt (a .guest) d (a .start) (a .request) (a .residue) (a .clock) (a .storage .now) (a .keys .now)) (loop .units + streak .result .units)
+    (machineAt (a .guest) d (after .result) (loop .asked) (loop .rest) (streak .result .clock) (streak .last .0) (streak .last .1 .0)) =
+    λ n d designated timed of.
+    streak-more n (a .budget) _ (machineAt (a .guest) d (loop .cpu) (loop .asked) (loop .rest) (loop .now) (loop .storage) (loop .keys)) _ (loop .units) (streak .result .units) (inv .4 n d designated timed of)
+    (subst (λ k. Remains n (a .budget - loop .units) (machineAt (a .guest) d (loop .cpu) (loop .asked) (loop .rest) (loop .now) (loop .storage) (loop .keys)) (streak .result .units)
+    (machineAt (a .guest) d k (loop .asked) (loop .rest) (streak .result .clock) (streak .last .0) (streak .last .1 .0))) (sym same)
+    (streak .ensures .1 .remains n d (loop .asked) (loop .rest) designated timed of)) in
+    let due = c .before .before .before .before .before .before .before .before .before .before .before .before .before .before .before .before .before .before .before .before .before .before .find-due in
+    let both = c .before .before .before .before .before .before .before .before .before .before .before .before .before .before .before .before .before .before .before .before .both in
+    let done = c .before .before .before .before .before .before .before .before .before .before .before .before .before .before .before .before .unit in
+    let begun : Begun (a .designation) (a .time) (a .guest) (loop .asked) (loop .rest) (streak .last .0) (due .result) (both .result) = record {
+      found = due .ensures;
+      told = both .ensures ∙ (λ i. timer .ensures i && c .before .before .before .before .before .before .before .before .before .before .before .before .before .before .before .before .before .before .before .before .before .pending .ensures i);
+    } in
+    let seen = sym (c .before .before .before .before .before .before .before .before .before .before .both2 .ensures ∙ (λ i. c .before .before .before .before .before .before .before .before .before .before .before .before .before .before .before .before .before .before .before .is-shut .ensures i && c .before .before .before .before .before .before .before .before .before .before .before .completed .ensures i)) ∙ c .before .before .before .before .before .before .before .before .before .if2 .left in
+    let state = c .before .before .before .before .before .before .before .before .state-after in
+    let charged′ = c .before .charged in
+    let tick = c .before .before .before .before .tick in
+    let later = c .clock-after in
+    let whole = sym (c .before .before .before .before .before .before .before .completed2 .ensures) ∙ c .before .before .before .before .before .before .if3 .taken in (
+      omega (arith, c .before .before .before .before .before .before .before .before .before .before .before .before .before .before .before .before .before .before .before .before .before .before .before .before .if1 .taken),
+      omega (arith, inv .1, c .before .before .before .before .before .before .before .before .before .before .before .before .before .before .before .before .before .before .before .before .before .before .before .before .before .before .before .before .before .before .before .storage .given, c .before .before .before .before .before .before .before .before .before .before .before .before .before .before .before .storage2 .given, c .before .before .before .storage3 .given),
+      omega (arith, inv .2, c .before .before .before .before .before .before .before .before .before .before .before .before .before .before .before .before .before .before .before .before .before .before .before .before .before .before .before .before .before .keys .given, c .before .before .before .before .before .before .before .before .before .before .before .before .before .keys2 .given),
       charged′ .ensures .1,
-      λ n d designated timed long here.
-          one-more n d long here (a .budget) _ (loop .units + streak .result .units) (after .result) (streak .result .clock) (streak .last .0) (streak .last .1 .0) bounded designated
-          (unit .result) _ _ (unit .ensures) (c .before .before .before .before .before .before .before .before .before .before .before .before .if1 .taken) (remains n d designated timed long here) (sym (c .before .before .before .completed .ensures) ∙ c .before .before .if2 .taken)
-          (charged′ .result) (charged′ .ensures .1) (charged′ .ensures .0 ∙ (λ i. charged (c .before .before .before .before .state-after .ensures .0 i) (sym timed i)))
-          (c .clock-after .result) (c .clock-after .ensures ∙ ap (clockAfter (streak .result .clock)) (sym timed)),
+      λ n d designated timed of.
+          one-more n (a .budget) _ (loop .units + streak .result .units) (machineAt (a .guest) d (after .result) (loop .asked) (loop .rest) (streak .result .clock) (streak .last .0) (streak .last .1 .0)) (remains n d designated timed of) (c .before .before .before .before .before .before .before .before .before .before .before .before .before .before .before .before .before .before .before .before .before .before .before .before .if1 .taken)
+          (goes-to n (a .guest) d of (after .result) bounded kind (loop .asked) (loop .rest) (inv .6) (streak .result .clock) (streak .last .0) (streak .last .1 .0) (due .result) (both .result) (begun-at designated timed (a .guest) (loop .asked) (loop .rest) (streak .last .0) (due .result) (both .result) begun) (done .result) (done .last .0) (done .last .1 .0) (comes-at designated (a .guest) (after .result) (streak .result .clock) (streak .last .0) (streak .last .1 .0) (due .result) (both .result) (done .result) (done .last .0) (done .last .1 .0) (c .before .before .before .before .before .before .before .before .before .before .before .before .before .before .before .before .before .before .before .is-shut .ensures) (done .ensures)) seen
+          (charged′ .result) (charged′ .ensures .1) whole
+          (ap ofXa (charged′ .ensures .0 ∙ (λ i. charged (state .ensures .0 i) (sym timed i))) ∙ charged-mode (after .result .psw .system370) (leftBy (after .result) (done .result)) (n .time) .0)
+          (tick .result .request) (tick .result .residue) (tick .last .0)
+          (λ on. (tick .ensures .1 (timer .ensures ∙ on) .0, tick .ensures .1 (timer .ensures ∙ on) .1 ∙ ap (residueAfter (loop .rest)) (sym timed)))
+          (λ off. tick .ensures .2 (timer .ensures ∙ off))
+          ∙ ap (λ t. goes (machineAt (a .guest) d (charged′ .result) (tick .result .request) (tick .result .residue) t (tick .last .0) (done .last .1 .0)))
+          (ap (clockAfter (streak .result .clock)) timed ∙ sym (later .ensures))),
+      ap (λ k. k .psw .system370) (charged′ .ensures .0 ∙ ap (λ k. charged k (a .time)) (state .ensures .0)) ∙ charged-mode (after .result .psw .system370) (leftBy (after .result) (done .result)) (a .time) .1 ∙ kind,
+      tick .ensures .0,
     )
 
 end-of-requires : tie.Need-end-of-requires Inv-loop μ-loop
 end-of-requires c κs = tt
 
-same-length : tie.Need-same-length Inv-loop μ-loop
-same-length c =
-    let inv = c .before .before .before .before .before .before .before .before .before .before .before .before .before .before .before .before .before .before .before .before .before .before .before .loop .inv in
-    omega (arith, inv .1, c .before .before .before .before .before .before .before .before .before .before .before .before .before .before .before .before .before .before .storage .given, c .before .before .before .before .before .before .before .storage2 .given)
+behind-exit-requires : tie.Need-behind-exit-requires Inv-loop μ-loop
+behind-exit-requires c κs = tt
 
-same-length-2 : tie.Need-same-length-2 Inv-loop μ-loop
-same-length-2 c =
-    let inv = c .before .before .before .before .before .before .before .before .before .before .before .before .before .before .before .before .before .before .before .before .before .before .before .loop .inv in
-    omega (arith, inv .2, c .before .before .before .before .before .before .before .before .before .before .before .before .before .before .before .before .keys .given, c .before .before .before .before .before .keys2 .given)
+same-length-3 : tie.Need-same-length-3 Inv-loop μ-loop
+same-length-3 c = omega (arith, c .before .before .before .before .before .before .before .before .before .before .before .before .before .before .before .before .before .before .before .before .before .before .before .before .before .before .before .before .before .before .before .before .loop .inv .1, c .before .before .before .before .before .before .before .before .before .before .before .before .before .before .before .before .before .before .before .before .before .before .before .before .before .before .before .storage .given, c .before .before .before .before .before .before .before .before .before .before .before .storage2 .given)
 
-returns : tie.Need-returns Inv-loop μ-loop
-returns c =
-    let start = c .before .before .before .before .before .before .before .before .before .before .before .before .before .before .before .before .before .before .before .before .before .before .before .before .before .before in
+same-length-4 : tie.Need-same-length-4 Inv-loop μ-loop
+same-length-4 c = omega (arith, c .before .before .before .before .before .before .before .before .before .before .before .before .before .before .before .before .before .before .before .before .before .before .before .before .before .before .before .before .before .before .before .before .loop .inv .2, c .before .before .before .before .before .before .before .before .before .before .before .before .before .before .before .before .before .before .before .before .before .before .before .before .before .keys .given, c .before .before .before .before .before .before .before .before .before .keys2 .given)
+
+returns-2 : tie.Need-returns-2 Inv-loop μ-loop
+returns-2 c =
+    let start = c .before .before .before .before .before .before .before .before .before .before .before .before .before .before .before .before .before .before .before .before .before .before .before .before .before .before .before .before .before .before .before .before .before .before .before .before in
     let a = start .args in
-    let loop = c .before .before .before .before .before .before .before .before .before .before .before .before .before .before .before .before .before .before .before .before .before .before .before .loop in
+    let timer = c .before .before .before .before .before .before .before .before .before .before .before .before .before .before .before .before .before .before .before .before .before .before .before .before .before .before .before .before .before .before .before .before .before .active in
+    let loop = c .before .before .before .before .before .before .before .before .before .before .before .before .before .before .before .before .before .before .before .before .before .before .before .before .before .before .before .before .before .before .before .before .loop in
     let inv = loop .inv in
-    let streak = c .before .before .before .before .before .before .before .before .before .before .before .before .before .before .before .before .before .before .before .paced-streak in
-    let after = c .before .before .before .before .before .before .before .before .before .before .before .before .before .before .after-streak in
-    let bounded = subst Bounded (sym (after .ensures)) (streak .ensures .1 .bounded) in
-    let remains : (n : Numbers) (d : List ℕ) → n .designation ≡ a .designation → n .time ≡ a .time → length d ≡ 200 → guestOf d ≡ a .guest
-    → Remains n (a .budget) (machineAt d (a .start) (a .clock) (a .storage .now) (a .keys .now)) (loop .units + streak .result .units)
-    (machineAt d (after .result) (streak .result .clock) (streak .last .0) (streak .last .1 .0)) =
-    λ n d designated timed long here.
-    streak-more n (a .budget) _ (machineAt d (loop .cpu) (loop .now) (loop .storage) (loop .keys)) _ (loop .units) (streak .result .units) (inv .4 n d designated timed long here)
-    (subst (λ k. Remains n (a .budget - loop .units) (machineAt d (loop .cpu) (loop .now) (loop .storage) (loop .keys)) (streak .result .units) (machineAt d k (streak .result .clock) (streak .last .0) (streak .last .1 .0))) (sym (after .ensures))
-    (streak .ensures .1 .remains n d designated timed long here)) in
-    let unit = c .before .before .before .before .before .before .before .before .unit in
-    λ n d designated timed long here.
-    exit-ended d (exit-ends n d long here (a .budget) _ (loop .units + streak .result .units) (after .result) (streak .result .clock) (streak .last .0) (streak .last .1 .0) bounded designated
-    (unit .result) _ _ (unit .ensures) (c .before .before .before .before .before .before .before .before .before .before .before .if1 .taken) (remains n d designated timed long here) (sym (c .before .before .completed .ensures) ∙ c .before .if2 .left)
-    (c .before .before .before .state-after .result) (c .before .before .before .state-after .ensures .1) (c .before .before .before .state-after .ensures .0)) (c .end-of .ensures)
+    let streak = c .before .before .before .before .before .before .before .before .before .before .before .before .before .before .before .before .before .before .before .before .before .before .before .before .before .before .before .before .paced-streak in
+    let after = c .before .before .before .before .before .before .before .before .before .before .before .before .before .before .before .before .before .before .before .before .before .before .before .after-streak in
+    let same = after .ensures ∙ of-mode (loop .cpu .psw .system370) (afterStreak (loop .cpu) (streak .result)) (streak .ensures .1 .architecture) in
+    let bounded = subst Bounded (sym same) (streak .ensures .1 .bounded) in
+    let kind = ap (λ k. k .psw .system370) (after .ensures) ∙ inv .5 in
+    let remains : (n : Numbers) (d : List ℕ) → n .designation ≡ a .designation → n .time ≡ a .time → OfGuest (a .guest) d
+    → Remains n (a .budget) (machineAt (a .guest) d (a .start) (a .request) (a .residue) (a .clock) (a .storage .now) (a .keys .now)) (loop .units + streak .result .units)
+    (machineAt (a .guest) d (after .result) (loop .asked) (loop .rest) (streak .result .clock) (streak .last .0) (streak .last .1 .0)) =
+    λ n d designated timed of.
+    streak-more n (a .budget) _ (machineAt (a .guest) d (loop .cpu) (loop .asked) (loop .rest) (loop .now) (loop .storage) (loop .keys)) _ (loop .units) (streak .result .units) (inv .4 n d designated timed of)
+    (subst (λ k. Remains n (a .budget - loop .units) (machineAt (a .guest) d (loop .cpu) (loop .asked) (loop .rest) (loop .now) (loop .storage) (loop .keys)) (streak .result .units)
+    (machineAt (a .guest) d k (loop .asked) (loop .rest) (streak .result .clock) (streak .last .0) (streak .last .1 .0))) (sym same)
+    (streak .ensures .1 .remains n d (loop .asked) (loop .rest) designated timed of)) in
+    let due = c .before .before .before .before .before .before .before .before .before .before .before .before .before .before .before .before .before .before .find-due in
+    let both = c .before .before .before .before .before .before .before .before .before .before .before .before .before .before .before .before .both in
+    let done = c .before .before .before .before .before .before .before .before .before .before .before .before .unit in
+    let begun : Begun (a .designation) (a .time) (a .guest) (loop .asked) (loop .rest) (streak .last .0) (due .result) (both .result) = record {
+      found = due .ensures;
+      told = both .ensures ∙ (λ i. timer .ensures i && c .before .before .before .before .before .before .before .before .before .before .before .before .before .before .before .before .before .pending .ensures i);
+    } in
+    let seen = sym (c .before .before .before .before .before .before .both2 .ensures ∙ (λ i. c .before .before .before .before .before .before .before .before .before .before .before .before .before .before .before .is-shut .ensures i && c .before .before .before .before .before .before .before .completed .ensures i)) ∙ c .before .before .before .before .before .if2 .left in
+    let state = c .before .before .before .before .state-after in
+    let exits = sym (c .before .before .before .completed2 .ensures) ∙ c .before .before .if3 .left in
+    λ n d designated timed of.
+    ended-so
+    (exit-ends n (a .budget) _ (loop .units + streak .result .units) (machineAt (a .guest) d (after .result) (loop .asked) (loop .rest) (streak .result .clock) (streak .last .0) (streak .last .1 .0)) (remains n d designated timed of) (c .before .before .before .before .before .before .before .before .before .before .before .before .before .before .before .before .before .before .before .before .if1 .taken)
+    (stops-to n (a .guest) d of (after .result) bounded kind (loop .asked) (loop .rest) (inv .6) (streak .result .clock) (streak .last .0) (streak .last .1 .0) (due .result) (both .result) (begun-at designated timed (a .guest) (loop .asked) (loop .rest) (streak .last .0) (due .result) (both .result) begun) (done .result) (done .last .0) (done .last .1 .0) (comes-at designated (a .guest) (after .result) (streak .result .clock) (streak .last .0) (streak .last .1 .0) (due .result) (both .result) (done .result) (done .last .0) (done .last .1 .0) (c .before .before .before .before .before .before .before .before .before .before .before .before .before .before .before .is-shut .ensures) (done .ensures)) seen
+    (state .result) (state .ensures .1) exits (ap ofXa (state .ensures .0)) _
+    (λ on. c .behind-exit .ensures (timer .ensures ∙ on))))
+    (c .before .end-of .ensures)
 
 loop-less-2 : tie.Need-loop-less-2 Inv-loop μ-loop
 loop-less-2 c = omega (arith, c .if1 .left, c .before .before .before .before .before .before .before .before .before .before .before .loop-test .taken)
 
 loop-again-2 : tie.Need-loop-again-2 Inv-loop μ-loop
 loop-again-2 c =
-    let start = c .before .before .before .before .before .before .before .before .before .before .before .before .before .before .before in
+    let start = c .before .before .before .before .before .before .before .before .before .before .before .before .before .before .before .before in
     let a = start .args in
+    let timer = c .before .before .before .before .before .before .before .before .before .before .before .before .before .active in
     let loop = c .before .before .before .before .before .before .before .before .before .before .before .before .loop in
     let inv = loop .inv in
     let streak = c .before .before .before .before .before .before .before .before .paced-streak in
     let after = c .before .before .before .after-streak in
-    let bounded = subst Bounded (sym (after .ensures)) (streak .ensures .1 .bounded) in
-    let remains : (n : Numbers) (d : List ℕ) → n .designation ≡ a .designation → n .time ≡ a .time → length d ≡ 200 → guestOf d ≡ a .guest
-    → Remains n (a .budget) (machineAt d (a .start) (a .clock) (a .storage .now) (a .keys .now)) (loop .units + streak .result .units)
-    (machineAt d (after .result) (streak .result .clock) (streak .last .0) (streak .last .1 .0)) =
-    λ n d designated timed long here.
-    streak-more n (a .budget) _ (machineAt d (loop .cpu) (loop .now) (loop .storage) (loop .keys)) _ (loop .units) (streak .result .units) (inv .4 n d designated timed long here)
-    (subst (λ k. Remains n (a .budget - loop .units) (machineAt d (loop .cpu) (loop .now) (loop .storage) (loop .keys)) (streak .result .units) (machineAt d k (streak .result .clock) (streak .last .0) (streak .last .1 .0))) (sym (after .ensures))
-    (streak .ensures .1 .remains n d designated timed long here)) in (
+    let same = after .ensures ∙ of-mode (loop .cpu .psw .system370) (afterStreak (loop .cpu) (streak .result)) (streak .ensures .1 .architecture) in
+    let bounded = subst Bounded (sym same) (streak .ensures .1 .bounded) in
+    let kind = ap (λ k. k .psw .system370) (after .ensures) ∙ inv .5 in
+    let remains : (n : Numbers) (d : List ℕ) → n .designation ≡ a .designation → n .time ≡ a .time → OfGuest (a .guest) d
+    → Remains n (a .budget) (machineAt (a .guest) d (a .start) (a .request) (a .residue) (a .clock) (a .storage .now) (a .keys .now)) (loop .units + streak .result .units)
+    (machineAt (a .guest) d (after .result) (loop .asked) (loop .rest) (streak .result .clock) (streak .last .0) (streak .last .1 .0)) =
+    λ n d designated timed of.
+    streak-more n (a .budget) _ (machineAt (a .guest) d (loop .cpu) (loop .asked) (loop .rest) (loop .now) (loop .storage) (loop .keys)) _ (loop .units) (streak .result .units) (inv .4 n d designated timed of)
+    (subst (λ k. Remains n (a .budget - loop .units) (machineAt (a .guest) d (loop .cpu) (loop .asked) (loop .rest) (loop .now) (loop .storage) (loop .keys)) (streak .result .units)
+    (machineAt (a .guest) d k (loop .asked) (loop .rest) (streak .result .clock) (streak .last .0) (streak .last .1 .0))) (sym same)
+    (streak .ensures .1 .remains n d (loop .asked) (loop .rest) designated timed of)) in (
       omega (arith, streak .ensures .0, c .before .before .before .before .before .before .before .before .before .before .before .loop-test .taken),
       omega (arith, inv .1, c .before .before .before .before .before .before .before .storage .given),
       omega (arith, inv .2, c .before .before .before .before .before .keys .given),
       bounded,
       remains,
+      kind,
+      inv .6,
     )
 
-same-length-3 : tie.Need-same-length-3 Inv-loop μ-loop
-same-length-3 c = search needs
+same-length-5 : tie.Need-same-length-5 Inv-loop μ-loop
+same-length-5 c = search needs
 
-same-length-4 : tie.Need-same-length-4 Inv-loop μ-loop
-same-length-4 c = search needs
+same-length-6 : tie.Need-same-length-6 Inv-loop μ-loop
+same-length-6 c = search needs
 
-returns-2 : tie.Need-returns-2 Inv-loop μ-loop
-returns-2 c =
-    let a = c .before .before .before .before .args in
+returns-3 : tie.Need-returns-3 Inv-loop μ-loop
+returns-3 c =
+    let a = c .before .before .before .before .before .args in
     let loop = c .before .loop in
-    let inv = loop .inv in
-    λ n d designated timed long here.
-    budget-ends n d long here (a .budget) _ (loop .units) (loop .cpu) (loop .now) (loop .storage) (loop .keys) (inv .0) (c .loop-test .left) (inv .4 n d designated timed long here)
+    λ n d designated timed of.
+    ended-so
+    (budget-ends n (a .budget) _ (loop .units) (machineAt (a .guest) d (loop .cpu) (loop .asked) (loop .rest) (loop .now) (loop .storage) (loop .keys)) (loop .inv .4 n d designated timed of)
+    (loop .inv .0) (c .loop-test .left))
+    refl
 
 pub run-spec : {M : Type 1} → statement M
 run-spec =
@@ -202,26 +328,39 @@ run-spec =
     (tie.spec
     Inv-loop
     μ-loop
+    active-requires
     loop-holds
     sub-paced-streak
     paced-streak-requires
     after-streak-requires
     add-units
     pace-after-requires
+    find-due-requires
+    pending-requires
+    both-requires
+    is-shut-requires
     unit-requires
-    state-after-requires
     completed-requires
+    both-requires-2
+    fault-end-requires
+    same-length
+    same-length-2
+    returns
+    state-after-requires
+    completed-requires-2
+    tick-requires
     charged-requires
     clock-after-requires
     add-units-2
     loop-less
     loop-again
     end-of-requires
-    same-length
-    same-length-2
-    returns
-    loop-less-2
-    loop-again-2
+    behind-exit-requires
     same-length-3
     same-length-4
-    returns-2)
+    returns-2
+    loop-less-2
+    loop-again-2
+    same-length-5
+    same-length-6
+    returns-3)

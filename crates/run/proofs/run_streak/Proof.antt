@@ -3,16 +3,17 @@
 use Prim.Native.Nat.{ℕ, _+_, _-_, _*_, _^_, _≤_, _<_}
 use native.Mathlib.Omega.{arith}
 use mathlib.Core.Path.{_≡_, refl, ap, _∙_}
+use mathlib.Core.Bool.{false}
 use mathlib.Core.List.{List}
 use lib.ListN.{length}
 use borrow.Author.Needs.{needs}
 use Rattle.machine.specs.declared.Numbers.{Numbers}
-use Rattle.machine.specs.Record.{guestOf}
+use Rattle.machine.specs.Record.{recordLength, guestOf}
 use Rattle.machine.specs.Host.{host}
 use Rattle.machine.specs.Record.{Bounded}
 use Rattle.pages.specs.Keeping.{Inside, Holds}
 use Rattle.pages.proofs.Holding.{holds-now}
-use Rattle.run.specs.Running.{machineAt, Remains, stateOf}
+use Rattle.run.specs.Running.{plainAt, Remains, stateOf}
 use Rattle.run.proofs.Steps.{remains-start}
 use Rattle.run.proofs.Streaking.{kept-on, inside-on, unchanged, charged-state, unit-more}
 use Rattle.run.proofs.run_streak.Statement.{statement}
@@ -22,8 +23,9 @@ abbrev Inv-loop : tie.InvT-loop
 Inv-loop storage₀ keys₀ designation guest clock time budget control psw₀ timer₀ general₀ now₀ units₀ kept₀ guard₀ tries₀ storage keys psw timer general now units kept guard tries =
     (units ≤ budget) × (tries ≤ 3) × (length storage ≡ length storage₀) × (length keys ≡ length keys₀) × (length guard ≡ 64) × Bounded (stateOf psw timer control general)
     × Inside storage keys kept × Holds guard guest (host designation storage keys) (stateOf psw timer control general) kept
-    × ((n : Numbers) (d : List ℕ) → n .designation ≡ designation → n .time ≡ time → length d ≡ 200 → guestOf d ≡ guest
-    → Remains n budget (machineAt d (stateOf psw₀ timer₀ control general₀) now₀ storage₀ keys₀) units (machineAt d (stateOf psw timer control general) now storage keys))
+    × ((n : Numbers) (d : List ℕ) → n .designation ≡ designation → n .time ≡ time → recordLength ≤ length d → guestOf d ≡ guest
+    → Remains n budget (plainAt d (stateOf psw₀ timer₀ control general₀) now₀ storage₀ keys₀) units (plainAt d (stateOf psw timer control general) now storage keys))
+    × (psw .system370 ≡ false)
 
 abbrev μ-loop : tie.MeasureT-loop
 μ-loop storage₀ keys₀ designation guest clock time budget control psw₀ timer₀ general₀ now₀ units₀ kept₀ guard₀ tries₀ storage keys psw timer general now units kept guard tries =
@@ -44,6 +46,7 @@ loop-holds c =
       c .nothing .ensures .1 _ _,
       c .nothing .ensures .0 _ _ (host _ _ _) _,
       λ n d designated timed long here. remains-start n _ _,
+      start .pre .3,
     )
 
 slice-aggregate-attempt : tie.Need-slice-aggregate-attempt Inv-loop μ-loop
@@ -55,7 +58,7 @@ attempt-requires c κs =
     (inv .6, inv .4)
 
 psw-of-requires : tie.Need-psw-of-requires Inv-loop μ-loop
-psw-of-requires c κs = tt
+psw-of-requires c κs = c .before .before .before .before .before .before .attempt .ensures .0 (c .if1 .taken) .1 .state .system370 ∙ c .before .before .before .before .before .before .before .before .before .before .before .before .before .loop .inv .9
 
 set-register-requires : tie.Need-set-register-requires Inv-loop μ-loop
 set-register-requires c κs = c .before .before .before .before .before .before .before .before .before .before .before .before .before .before .before .loop .inv .5 .general
@@ -109,10 +112,11 @@ loop-again c =
       inside-on _ _ _ _ _ longer same (inv .6),
       kept-on _ _ _ _ _ _ _ state to _ q spares (moved .ensures .0) refl (inv .7),
       λ n d designated timed long here.
-          unit-more n d long here (start .args .budget) _ (loop .units) state (loop .now) (loop .storage) (loop .keys) (inv .5) designated q _ _
+          unit-more n d long here (start .pre .4) (start .args .budget) _ (loop .units) state (loop .now) (loop .storage) (loop .keys) (inv .5) (inv .9) designated q _ _
           (left (host (start .args .designation) (loop .storage) (loop .keys)) state refl refl refl refl refl refl (inv .5 .general .long) (holds-now _ _ _ _ _ _ _ (inv .7)))
           (c .before .before .before .before .before .before .before .before .before .before .before .before .before .before .before .before .before .loop-test .taken) (inv .8 n d designated timed long here) to lasting timed
           (charged-state state q (moved .result) (start .args .time) _ _ (moved .ensures .0) (c .before .timer-after .ensures) (c .before .before .set-register .ensures .0)) _ (c .clock-after .ensures),
+      ap (λ p. p .system370) (moved .ensures .0) ∙ spares .state .system370 ∙ inv .9,
     )
 
 spent-requires : tie.Need-spent-requires Inv-loop μ-loop
@@ -135,9 +139,10 @@ returns c =
       inv .0,
       record {
         bounded = inv .5;
+        architecture = inv .9;
         remains = λ n d designated timed long here.
-            unchanged (λ s k. Remains n (start .args .budget) (machineAt d (start .args .start) (start .args .clock) (start .args .storage .now) (start .args .keys .now)) (loop .units)
-            (machineAt d state (loop .now) s k)) bytes marks (inv .8 n d designated timed long here);
+            unchanged (λ s k. Remains n (start .args .budget) (plainAt d (start .args .start) (start .args .clock) (start .args .storage .now) (start .args .keys .now)) (loop .units)
+            (plainAt d state (loop .now) s k)) bytes marks (inv .8 n d designated timed long here);
       },
     )
 
@@ -152,7 +157,7 @@ keep-requires c κs =
     let some : 0 < attempt .result .want = omega (arith, c .before .before .before .before .before .if1 .left) in
     let (bytes, marks, small) = attempt .ensures .1 some in
     let (few, tries) = c .before .before .before .before .spent .ensures (c .before .before .before .if2 .left) in
-    (start .pre .0, omega (arith, start .pre .1, inv .2, inv .3, ap length bytes, ap length marks), small, inv .4, some, few)
+    (start .pre .0, omega (arith, start .pre .1, inv .2, inv .3, ap length bytes, ap length marks), small, inv .4, some, few, inv .9)
 
 add-tries : tie.Need-add-tries Inv-loop μ-loop
 add-tries c =
@@ -183,8 +188,9 @@ loop-again-2 c =
       keep .ensures .1 (inside-on (loop .storage) (loop .keys) _ _ (loop .kept) (ap length bytes) (ap length marks) (inv .6)),
       keep .ensures .0 state refl refl (unchanged (λ s k. Holds (loop .guard) (start .args .guest) (host (start .args .designation) s k) state (loop .kept)) bytes marks (inv .7)),
       λ n d designated timed long here.
-          unchanged (λ s k. Remains n (start .args .budget) (machineAt d (start .args .start) (start .args .clock) (start .args .storage .now) (start .args .keys .now)) (loop .units)
-          (machineAt d state (loop .now) s k)) bytes marks (inv .8 n d designated timed long here),
+          unchanged (λ s k. Remains n (start .args .budget) (plainAt d (start .args .start) (start .args .clock) (start .args .storage .now) (start .args .keys .now)) (loop .units)
+          (plainAt d state (loop .now) s k)) bytes marks (inv .8 n d designated timed long here),
+      inv .9,
     )
 
 same-length-3 : tie.Need-same-length-3 Inv-loop μ-loop
@@ -196,7 +202,7 @@ same-length-4 c = search needs
 returns-2 : tie.Need-returns-2 Inv-loop μ-loop
 returns-2 c =
     let inv = c .before .loop .inv in
-    (inv .0, record { bounded = inv .5; remains = inv .8 })
+    (inv .0, record { bounded = inv .5; architecture = inv .9; remains = inv .8 })
 
 pub run-streak-spec : {M : Type 1} → statement M
 run-streak-spec =

@@ -14,8 +14,8 @@ general-after-requires c κs = search needs
 returns : tie.Need-returns
 unfolding leftBy
 returns c =
-    let a = c .before .before .before .args in (
-      (λ i. record { psw = a .done .psw; timer = a .done .timer; control = a .done .control; general = record { words = c .general-after .ensures .0 i } }),
+    let a = c .before .before .args in (
+      (λ i. record { psw = record { left = a .done .psw .left; right = a .done .psw .right; system370 = a .cpu .psw .system370 }; timer = a .done .timer; control = a .done .control; general = record { words = c .general-after .ensures .0 i } }),
       record {
         left = search needs;
         right = search needs;

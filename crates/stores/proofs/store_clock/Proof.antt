@@ -60,7 +60,7 @@ with-psw-requires : tie.Need-with-psw-requires
 with-psw-requires c κs = search needs
 
 same-length-3 : tie.Need-same-length-3
-same-length-3 c = search needs
+same-length-3 c = let reached = c .before .before .before .before .before .before .before .before .before .before .before .before .before .before .storage in search needs
 
 same-length-4 : tie.Need-same-length-4
 same-length-4 c = search needs

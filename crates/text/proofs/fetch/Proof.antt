@@ -7,7 +7,7 @@ use borrow.Author.Needs.{needs}
 use Rattle.machine.specs.Psw.{wrap}
 use Rattle.address.specs.Touching.{seen}
 use Rattle.text.specs.Fetching.{noText, noFrames, noOpcode}
-use Rattle.text.proofs.Halfwords.{wrap-below, initial, none-keyed}
+use Rattle.text.proofs.Halfwords.{wrap-even, initial, none-keyed}
 use Rattle.text.proofs.Texts.{standing-started, first-odd}
 use Rattle.text.proofs.fetch.Statement.{statement}
 use Rattle.text.proofs.fetch.Tie as tie
@@ -35,7 +35,7 @@ wrapped-requires c κs = search needs
 find-half-requires : tie.Need-find-half-requires
 find-half-requires c κs =
     let back5 = c .before .before .before .before .before in
-    (back5 .pre .0, back5 .pre .1, rw (c .wrapped .ensures (back5 .args .control)) (wrap-below _ _))
+    (back5 .pre .0, back5 .pre .1, rw (c .wrapped .ensures (back5 .args .control)) (wrap-even _ _ (omega (arith, c .before .if1 .left))))
 
 fetch-first-requires : tie.Need-fetch-first-requires
 fetch-first-requires c κs =

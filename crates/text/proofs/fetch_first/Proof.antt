@@ -37,7 +37,7 @@ fetch-second-requires c κs =
     let back3 = c .before .before .before in
     let back7 = back3 .before .before .before .before in
     let (entered, each) = back7 .pre .0 in
-    ((entered, each, rw (c .decode .ensures) (length-at-most _)), opened (back7 .pre .1) (back3 .operand2 .given .1))
+    ((entered, each, rw (c .decode .ensures) (length-at-most _ _)), opened (back7 .pre .1) (back3 .operand2 .given .1))
 
 returns : tie.Need-returns
 returns c =
@@ -60,9 +60,9 @@ returns-2 c =
     let known = c .before .decode .ensures in (
       first-open noText noFrames place (oneFrame place) (marked-first place) (record { ilc = code .length; first = half; second = 0; third = 0 }) code
           (c .fetch-second .result) (opened (back8 .pre .1) (back4 .operand2 .given .1))
-          (ap (λ o. record { ilc = o .length; first = half; second = 0; third = 0 }) known ∙ ap firstText (back2 .half-at .ensures .0))
+          (ap (λ o. record { ilc = o .length; first = half; second = 0; third = 0 }) known ∙ ap (firstText (back8 .args .by .psw .system370)) (back2 .half-at .ensures .0))
           known (c .fetch-second .ensures .0),
-      (c .fetch-second .ensures .1, rw known (alignment-some _)),
+      (c .fetch-second .ensures .1, rw known (alignment-some _ _)),
     )
 
 pub fetch-first-spec : {M : Type 1} → statement M

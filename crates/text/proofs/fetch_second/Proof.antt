@@ -5,7 +5,7 @@ use native.Mathlib.Omega.{arith}
 use mathlib.Core.Path.{refl}
 use borrow.Author.Needs.{needs}
 use Rattle.text.specs.Fetching.{oneFrame}
-use Rattle.text.proofs.Halfwords.{below, wrap-below, same-offset, fits, further, next, next-page, keyed, one-keyed, ends-in-first, marked-once}
+use Rattle.text.proofs.Halfwords.{below, wrap-even, same-offset, fits, further, next, next-page, keyed, one-keyed, ends-in-first, marked-once}
 use Rattle.text.proofs.Texts.{second-spare, second-open}
 use Rattle.text.proofs.fetch_second.Statement.{statement}
 use Rattle.text.proofs.fetch_second.Tie as tie
@@ -71,7 +71,7 @@ wrapped-requires c κs = search needs
 find-half-requires : tie.Need-find-half-requires
 find-half-requires c κs =
     let back6 = c .before .before .before .before .before .before in
-    (back6 .pre .0 .0, back6 .pre .0 .1, rw (c .wrapped .ensures (back6 .args .by .control)) (wrap-below _ _))
+    (back6 .pre .0 .0, back6 .pre .0 .1, rw (c .wrapped .ensures (back6 .args .by .control)) (wrap-even _ _ (omega (arith, back6 .pre .1 .even))))
 
 second-page-requires : tie.Need-second-page-requires
 second-page-requires c κs =

@@ -3,7 +3,7 @@
 use Prim.Native.Nat.{_+_}
 use native.Mathlib.Omega.{arith}
 use borrow.Author.Needs.{needs}
-use Rattle.text.proofs.Halfwords.{below, wrap-below, same-offset, fits, further, next, marked-once}
+use Rattle.text.proofs.Halfwords.{below, wrap-even, same-offset, fits, further, next, marked-once}
 use Rattle.text.proofs.Texts.{third-spare, third-open}
 use Rattle.text.proofs.fetch_third.Statement.{statement}
 use Rattle.text.proofs.fetch_third.Tie as tie
@@ -49,7 +49,7 @@ wrapped-requires c κs = search needs
 find-half-requires : tie.Need-find-half-requires
 find-half-requires c κs =
     let back6 = c .before .before .before .before .before .before in
-    (back6 .pre .0 .0, back6 .pre .0 .1, rw (c .wrapped .ensures (back6 .args .by .control)) (wrap-below _ _))
+    (back6 .pre .0 .0, back6 .pre .0 .1, rw (c .wrapped .ensures (back6 .args .by .control)) (wrap-even _ _ (omega (arith, back6 .pre .1 .1 .even))))
 
 third-page-requires : tie.Need-third-page-requires
 third-page-requires c κs =

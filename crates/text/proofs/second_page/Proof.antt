@@ -41,7 +41,7 @@ returns c =
     let (keys, one, more, few, start) = back6 .pre .1 .0 in
     let found = shut (back6 .pre .1 .1) (back2 .operand .given .1) in
     rw (c .cut-short .ensures)
-    (second-shut (a .text) (a .frames) (opcodeOf (a .text .first)) (back2 .operand .given .0 .0) more found, (keys, few, small-code found))
+    (second-shut (a .text) (a .frames) (opcodeOf (a .by .psw .system370) (a .text .first)) (back2 .operand .given .0 .0) more found, (keys, few, small-code found))
 
 returns-2 : tie.Need-returns-2
 returns-2 c =

@@ -33,7 +33,7 @@ returns c =
     let (keys, one, long) = back6 .pre .1 .0 in
     let found = shut (back6 .pre .1 .1) (back2 .operand .given .1) in
     rw (c .cut-short .ensures)
-    (third-shut (a .text) (a .frames) (opcodeOf (a .text .first)) (back2 .operand .given .0 .0) (omega arith) found, (keys, omega arith, small-code found))
+    (third-shut (a .text) (a .frames) (opcodeOf (a .by .psw .system370) (a .text .first)) (back2 .operand .given .0 .0) (omega arith) found, (keys, omega arith, small-code found))
 
 returns-2 : tie.Need-returns-2
 returns-2 c =

@@ -15,6 +15,8 @@ use Rattle.execute.specs.After.{Left}
 use Rattle.text.proofs.Order.{by-failure}
 use Rattle.unit.specs.declared.Tests.{Tests}
 use Rattle.unit.specs.Testing.{afterTests, exceptionCode}
+use Rattle.unit.proofs.Order.{excepted-halts, intercepted-halts}
+use Rattle.unit.proofs.Foretelling.{comes-left, comes-along}
 use Rattle.unit.proofs.decoded.Statement.{statement}
 use Rattle.unit.proofs.decoded.Tie as tie
 
@@ -49,8 +51,8 @@ intercept-instruction-requires c κs = search needs
 enum-told-2 : tie.Need-enum-told-2
 enum-told-2 c = search needs
 
-perform-requires : tie.Need-perform-requires
-perform-requires c κs = search needs
+cleared-requires : tie.Need-cleared-requires
+cleared-requires c κs = search needs
 
 same-length : tie.Need-same-length
 same-length c = search needs
@@ -66,21 +68,23 @@ returns c =
     let back11 = back9 .before .before in
     let a = back11 .before .before .before .args in
     λ x standing.
-    by-arm (host (a .designation) _ _) (a .guest) (a .cpu) x (a .o) (back4 .excepted .result)
-    (back11 .tested .ensures .0 x (standing .ofGuest) (ap (λ k. k .psw) (standing .ofCpu)) (ap (λ k. k .general) (standing .ofCpu)) (standing .ofText))
-    (back9 .tests .given .1)
+    let tests = back11 .tested .ensures .0 x (standing .ofGuest) (ap (λ k. k .psw) (standing .ofCpu)) (ap (λ k. k .general) (standing .ofCpu)) (standing .ofText) in
+    comes-left (a .shut) (host (a .designation) _ _) (a .guest) (a .cpu) (decoded x (a .o)) (back4 .excepted .result)
+    (λ f word. excepted-halts (a .guest) (host (a .designation) _ _) word x standing (a .o) tests (back9 .tests .given .1))
+    (by-arm (host (a .designation) _ _) (a .guest) (a .cpu) x (a .o) (back4 .excepted .result) tests (back9 .tests .given .1)
     (by-failure (host (a .designation) _ _) (a .guest) (a .cpu) (x .cpu) x (back4 .excepted .result) (back7 .exception-of .ensures)
-    (back4 .excepted .ensures (a .clock) x standing))
+    (back4 .excepted .ensures (a .clock) x standing)))
 
 returns-2 : tie.Need-returns-2
 returns-2 c =
     let back3 = c .before .before .before in
     let a = back3 .before .before .before .args in
     λ x standing.
-    by-arm (host (a .designation) _ _) (a .guest) (a .cpu) x (a .o) (c .intercept-instruction .result)
-    (back3 .tested .ensures .0 x (standing .ofGuest) (ap (λ k. k .psw) (standing .ofCpu)) (ap (λ k. k .general) (standing .ofCpu)) (standing .ofText))
-    (c .before .enum-told .given .1)
-    (c .intercept-instruction .ensures (host (a .designation) _ _) (a .guest) (a .clock) (a .t) x standing)
+    let tests = back3 .tested .ensures .0 x (standing .ofGuest) (ap (λ k. k .psw) (standing .ofCpu)) (ap (λ k. k .general) (standing .ofCpu)) (standing .ofText) in
+    comes-left (a .shut) (host (a .designation) _ _) (a .guest) (a .cpu) (decoded x (a .o)) (c .intercept-instruction .result)
+    (λ f word. intercepted-halts (a .guest) (host (a .designation) _ _) word x standing (a .o) tests (c .before .enum-told .given .1))
+    (by-arm (host (a .designation) _ _) (a .guest) (a .cpu) x (a .o) (c .intercept-instruction .result) tests (c .before .enum-told .given .1)
+    (c .intercept-instruction .ensures (host (a .designation) _ _) (a .guest) (a .clock) (a .t) x standing))
 
 same-length-3 : tie.Need-same-length-3
 same-length-3 c = search needs
@@ -95,10 +99,10 @@ returns-3 c =
     let back9 = back7 .before .before in
     let a = back9 .before .before .before .args in
     λ x standing.
-    by-arm (host (a .designation) _ _) (a .guest) (a .cpu) x (a .o) (back4 .perform .result)
-    (back9 .tested .ensures .0 x (standing .ofGuest) (ap (λ k. k .psw) (standing .ofCpu)) (ap (λ k. k .general) (standing .ofCpu)) (standing .ofText))
-    (back7 .enum-told2 .given .1)
-    (back4 .perform .ensures x standing)
+    comes-along (a .shut) (host (a .designation) _ _) (a .guest) (a .cpu) (back4 .cleared .result)
+    (back9 .tested .ensures .0 x (standing .ofGuest) (ap (λ k. k .psw) (standing .ofCpu)) (ap (λ k. k .general) (standing .ofCpu)) (standing .ofText)
+    ∙ ap (afterTests x (a .o)) (back7 .enum-told2 .given .1))
+    (back4 .cleared .ensures x standing)
 
 pub decoded-spec : {M : Type 1} → statement M
 decoded-spec =
@@ -111,7 +115,7 @@ decoded-spec =
     enum-told
     intercept-instruction-requires
     enum-told-2
-    perform-requires
+    cleared-requires
     same-length
     same-length-2
     returns

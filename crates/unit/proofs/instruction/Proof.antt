@@ -3,7 +3,9 @@
 use borrow.Author.Needs.{needs}
 use mathlib.Core.Path.{refl}
 use Rattle.machine.specs.Host.{host}
-use Rattle.text.proofs.Order.{fetch-failed, fetch-whole}
+use Rattle.text.proofs.Order.{fetch-failed}
+use Rattle.unit.proofs.Order.{fetch-halts}
+use Rattle.unit.proofs.Foretelling.{comes-left, fetch-comes}
 use Rattle.unit.proofs.instruction.Statement.{statement}
 use Rattle.unit.proofs.instruction.Tie as tie
 
@@ -26,8 +28,11 @@ returns c =
     let back13 = back8 .before .before .before .before .before in
     let a = back13 .before .before .before .before .before .args in
     let fetched = back13 .fetch in
-    fetch-failed (host (a .designation) _ _) (a .guest) (a .clock) (a .cpu) (fetched .result .opcode) (fetched .result .reading) (back4 .excepted .result)
-    (fetched .ensures .0 (a .cpu) (a .clock) refl refl) (back8 .if1 .taken) (λ x standing. back4 .excepted .ensures (a .clock) x standing)
+    let text = fetched .ensures .0 (a .cpu) (a .clock) refl refl in
+    comes-left (a .shut) (host (a .designation) _ _) (a .guest) (a .cpu) _ (back4 .excepted .result)
+    (λ f word. fetch-halts (a .guest) (host (a .designation) _ _) word (a .clock) (a .cpu) (fetched .result .opcode) (fetched .result .reading) text (back8 .if1 .taken))
+    (fetch-failed (host (a .designation) _ _) (a .guest) (a .clock) (a .cpu) (fetched .result .opcode) (fetched .result .reading) (back4 .excepted .result)
+    text (back8 .if1 .taken) (λ x standing. back4 .excepted .ensures (a .clock) x standing))
 
 decoded-requires : tie.Need-decoded-requires
 decoded-requires c κs = search needs
@@ -45,7 +50,7 @@ returns-2 c =
     let back12 = back7 .before .before .before .before .before in
     let a = back12 .before .before .before .before .before .args in
     let fetched = back12 .fetch in
-    fetch-whole (host (a .designation) _ _) (a .guest) (a .clock) (a .cpu) (fetched .result .opcode) (fetched .result .reading) (back4 .decoded .result)
+    fetch-comes (a .shut) (host (a .designation) _ _) (a .guest) (a .clock) (a .cpu) (fetched .result .opcode) (fetched .result .reading) (back4 .decoded .result)
     (fetched .ensures .0 (a .cpu) (a .clock) refl refl) (back7 .if1 .left) (λ x standing. back4 .decoded .ensures x standing)
 
 pub instruction-spec : {M : Type 1} → statement M

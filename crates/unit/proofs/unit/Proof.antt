@@ -3,7 +3,7 @@
 use borrow.Author.Needs.{needs}
 use mathlib.Core.Path.{refl}
 use Rattle.machine.specs.Host.{host}
-use Rattle.text.proofs.Order.{after-list}
+use Rattle.unit.proofs.Foretelling.{comes-along}
 use Rattle.unit.proofs.unit.Statement.{statement}
 use Rattle.unit.proofs.unit.Tie as tie
 
@@ -25,7 +25,7 @@ returns c =
     let back7 = back4 .before .before .before in
     let back10 = back7 .before .before .before in
     let a = back10 .args in
-    after-list (host (a .designation) _ _) (a .guest) (a .clock) (a .cpu) (back7 .before-unit .result) (back4 .unit-after .result)
+    comes-along (a .shut) (host (a .designation) _ _) (a .guest) (a .cpu) (back4 .unit-after .result)
     (back7 .before-unit .ensures _ (a .cpu) refl refl refl) (back4 .unit-after .ensures)
 
 pub unit-spec : {M : Type 1} → statement M

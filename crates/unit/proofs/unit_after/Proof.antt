@@ -8,7 +8,9 @@ use Rattle.machine.specs.Units.{started}
 use Rattle.machine.specs.Psw.{withPsw}
 use Rattle.execute.specs.After.{leftBy}
 use Rattle.text.proofs.Texts.{standing-started}
-use Rattle.text.proofs.Order.{after-ends, after-malformed, after-instruction}
+use Rattle.text.proofs.Order.{after-ends, after-malformed}
+use Rattle.unit.proofs.Order.{list-ends, list-malformed}
+use Rattle.unit.proofs.Foretelling.{comes-left, after-comes}
 use Rattle.unit.proofs.unit_after.Statement.{statement}
 use Rattle.unit.proofs.unit_after.Tie as tie
 
@@ -49,9 +51,11 @@ unfolding leftBy withPsw
 returns c =
     let back7 = c .before .before .before .before .before .before .before in
     let a = back7 .args in
-    after-ends (host (a .designation) _ _) (a .guest) (a .clock) (a .cpu) (a .before) (c .ended-with .result) (c .before .before .before .before2 .given .0 .0) (c .before .before .before .before2 .given .1)
+    comes-left (a .shut) (host (a .designation) _ _) (a .guest) (a .cpu) _ (c .ended-with .result)
+    (λ f word. list-ends (a .guest) (host (a .designation) _ _) word (a .clock) (a .cpu) (a .before) (c .before .before .before .before2 .given .1))
+    (after-ends (host (a .designation) _ _) (a .guest) (a .clock) (a .cpu) (a .before) (c .ended-with .result) (c .before .before .before .before2 .given .0 .0) (c .before .before .before .before2 .given .1)
     (ap (λ d. d .event) (c .ended-with .ensures))
-    (ap (leftBy (a .cpu)) (c .ended-with .ensures) ∙ ap (λ k. withPsw k (a .cpu .psw)) (c .before .with-psw .ensures .1))
+    (ap (leftBy (a .cpu)) (c .ended-with .ensures) ∙ ap (λ k. withPsw k (a .cpu .psw)) (c .before .with-psw .ensures .1)))
 
 same-length : tie.Need-same-length
 same-length c = search needs
@@ -68,9 +72,11 @@ returns-2 c =
     let back13 = back9 .before .before .before .before in
     let a = back13 .args in
     let h = host (a .designation) _ _ in
-    after-malformed h (a .guest) (a .clock) (a .cpu) (a .before) (back4 .excepted .result) (back8 .exception-of .result) (back8 .exception-of .ensures) (back9 .enum-told .given .1)
+    comes-left (a .shut) h (a .guest) (a .cpu) _ (back4 .excepted .result)
+    (λ f word. list-malformed (a .guest) h word (a .clock) (a .cpu) (a .before) (back9 .enum-told .given .1))
+    (after-malformed h (a .guest) (a .clock) (a .cpu) (a .before) (back4 .excepted .result) (back8 .exception-of .result) (back8 .exception-of .ensures) (back9 .enum-told .given .1)
     (back4 .excepted .ensures (a .clock) (started (a .guest) (a .clock) (view (a .guest) h) (a .cpu) 0)
-    (standing-started h (a .guest) (a .clock) (a .cpu) 0 (back5 .unfetched .ensures)))
+    (standing-started h (a .guest) (a .clock) (a .cpu) 0 (back5 .unfetched .ensures))))
 
 same-length-3 : tie.Need-same-length-3
 same-length-3 c = search needs
@@ -84,7 +90,7 @@ returns-3 c =
     let back7 = back4 .before .before .before in
     let back11 = back7 .before .before .before .before in
     let a = back11 .args in
-    after-instruction (host (a .designation) _ _) (a .guest) (a .clock) (a .cpu) (a .before) (back4 .instruction .result) (back7 .enum-told2 .given .1) (back4 .instruction .ensures)
+    after-comes (a .shut) (host (a .designation) _ _) (a .guest) (a .clock) (a .cpu) (a .before) (back4 .instruction .result) (back7 .enum-told2 .given .1) (back4 .instruction .ensures)
 
 pub unit-after-spec : {M : Type 1} → statement M
 unit-after-spec =

@@ -23,16 +23,15 @@ fn main() {
         exit(2);
     }
     let start = Instant::now();
-    let machines = report::machines();
     let mut kinds: BTreeMap<String, u64> = BTreeMap::new();
     for number in 0..cases {
-        for &machine in &machines {
+        for machine in report::MACHINES {
             let Some(mut rng) = machine.rng(seed, number) else { continue };
             let wishes = Wishes { machine, damage: true, large_extents: true };
             let case = generate::case(&mut rng, wishes);
             let Some(mut file) = report::case_file(&case) else { continue };
             if rng.percent(40) {
-                damage(&mut rng, &mut file, machines.len() > 1);
+                damage(&mut rng, &mut file);
             }
             let owed = model::case_line(&file);
             let given = printed(&program, &file);
@@ -82,8 +81,8 @@ fn mend_length(file: &mut [u8]) {
     }
 }
 
-/// Spoils a file. `larger`: also with a record that says 208.
-fn damage(rng: &mut Rng, file: &mut Vec<u8>, larger: bool) {
+/// Spoils a file.
+fn damage(rng: &mut Rng, file: &mut Vec<u8>) {
     let size = if file[RECORD..].starts_with(&[0, 208]) { 208 } else { 200 };
     match rng.below(9) {
         0 => {
@@ -109,8 +108,8 @@ fn damage(rng: &mut Rng, file: &mut Vec<u8>, larger: bool) {
             file[RECORD..RECORD + 2].copy_from_slice(&field.to_be_bytes());
         }
         6 => file[RECORD + 2] = rng.pick(&[0, 1, 2, 3]),
-        7 if larger => file[RECORD + 1] = (408 - size) as u8,
-        8 if larger => {
+        7 => file[RECORD + 1] = (408 - size) as u8,
+        _ => {
             // The other size, with a frame count where it is then looked for, and as many bytes.
             let other = 408 - size;
             let frames = rng.range(1, 8) as usize;
@@ -122,6 +121,5 @@ fn damage(rng: &mut Rng, file: &mut Vec<u8>, larger: bool) {
             file[RECORD + other] = frames as u8;
             mend_length(file);
         }
-        _ => {}
     }
 }

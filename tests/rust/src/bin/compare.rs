@@ -39,11 +39,10 @@ fn main() {
     let (cases, seed) = report::arguments(200_000);
     println!("compare: {cases} cases, seed {seed}");
     let start = Instant::now();
-    let machines = report::machines();
-    let mut tallies: Vec<Tally> = machines.iter().map(|&machine| Tally::new(machine)).collect();
+    let mut tallies = report::MACHINES.map(Tally::new);
     let mut done = 0;
     for number in 0..cases {
-        for (&machine, tally) in machines.iter().zip(&mut tallies) {
+        for (machine, tally) in report::MACHINES.into_iter().zip(&mut tallies) {
             let Some(mut rng) = machine.rng(seed, number) else { continue };
             let wishes = Wishes { machine, damage: true, large_extents: true };
             let case = generate::case(&mut rng, wishes);

@@ -12,7 +12,7 @@ use std::time::Instant;
 fn main() {
     let (cases, seed) = report::arguments(50_000);
     println!("isolation: {cases} cases, seed {seed}");
-    for machine in report::machines() {
+    for machine in report::MACHINES {
         isolate(machine, cases, seed);
     }
     println!("isolation: holds");

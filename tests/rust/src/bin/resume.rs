@@ -11,7 +11,7 @@ use std::time::Instant;
 fn main() {
     let (cases, seed) = report::arguments(50_000);
     println!("resume: {cases} cases, seed {seed}");
-    for machine in report::machines() {
+    for machine in report::MACHINES {
         resume(machine, cases, seed);
     }
     println!("resume: holds");
