@@ -185,6 +185,155 @@ static void bad_access(struct rig *r)
     r->access = 3;
 }
 
+/* Entries of both of the guest's segments, and of its pages in both tables. */
+
+static void put_segments(struct rig *r, uint32_t entry)
+{
+    guest_word(r, 2, 0, entry);
+    guest_word(r, 2, 17 * 4, entry);
+}
+
+static void put_pages(struct rig *r, uint32_t entry)
+{
+    uint32_t i;
+
+    for (i = 0; i < DATA_PAGES; i++) {
+        guest_word(r, 3, i * 4, entry);
+        guest_word(r, 4, i * 4, entry);
+    }
+}
+
+static void map_data(struct rig *r, uint32_t entry)
+{
+    uint32_t i;
+
+    for (i = 0; i < DATA_PAGES; i++)
+        map_page(r, DATA_PAGE + i, entry);
+}
+
+static void segment_past_table(struct rig *r)
+{
+    uint32_t i;
+
+    put32(r->record + AT_CR1, SEGMENT_TABLE_PAGE << 12);
+    for (i = 0; i < ADDRESSES; i++)
+        r->addresses[i] |= 17u << 20;
+}
+
+static void segment_past_extent(struct rig *r)
+{
+    put32(r->record + AT_CR1, EXTENT << 16 | 127);
+}
+
+static void no_host_segment_entry(struct rig *r)
+{
+    map_page(r, SEGMENT_TABLE_PAGE, PAGE_INVALID);
+}
+
+static void segment_malformed(struct rig *r)
+{
+    put_segments(r, BIT(0));
+}
+
+static void page_past_table(struct rig *r)
+{
+    uint32_t i;
+
+    put_segments(r, PAGE_TABLE_PAGE << 12);
+    for (i = 0; i < ADDRESSES; i++)
+        r->addresses[i] += 1u << 16;
+}
+
+static void page_past_extent(struct rig *r)
+{
+    put_segments(r, EXTENT << 16 | 15);
+}
+
+static void no_host_page_entry(struct rig *r)
+{
+    map_page(r, PAGE_TABLE_PAGE, PAGE_INVALID);
+    map_page(r, PAGE_TABLE_PAGE + 2, PAGE_INVALID);
+}
+
+static void no_page(struct rig *r)
+{
+    put_pages(r, PAGE_INVALID);
+}
+
+static void page_malformed(struct rig *r)
+{
+    put_pages(r, BIT(20));
+}
+
+static void byte_past_extent(struct rig *r)
+{
+    put_pages(r, EXTENT << 16);
+}
+
+static void no_frame(struct rig *r)
+{
+    map_data(r, (uint32_t)r->frames << 12);
+}
+
+static void host_page_malformed(struct rig *r)
+{
+    map_data(r, BIT(20));
+}
+
+static void real_no_host_page(struct rig *r)
+{
+    dat_off(r);
+    no_host_page(r);
+}
+
+/* Origin 256, the first block that a host segment table of length 0 lacks. */
+static void real_no_host_segment(struct rig *r)
+{
+    dat_off(r);
+    put16(r->record + AT_ORIGIN, 256);
+}
+
+static void real_past_extent(struct rig *r)
+{
+    uint32_t i;
+
+    dat_off(r);
+    for (i = 0; i < ADDRESSES; i++)
+        r->addresses[i] += EXTENT << 16;
+}
+
+static void store_protected(struct rig *r)
+{
+    store(r);
+    put_pages(r, DATA_PAGE << 12 | PAGE_PROTECTED);
+}
+
+static void store_host_protected(struct rig *r)
+{
+    store(r);
+    map_data(r, used_frame(r, 5) << 12 | PAGE_PROTECTED);
+}
+
+static void store_low(struct rig *r)
+{
+    uint32_t i;
+
+    store(r);
+    put32(r->record + AT_CR0, CR0_LOW_PROTECTION);
+    for (i = 0; i < ADDRESSES; i++)
+        r->addresses[i] = i * 2;
+}
+
+static void bad_entry(struct rig *r)
+{
+    put16(r->record + AT_EXTENT, 0);
+}
+
+static void bad_control(struct rig *r)
+{
+    put32(r->record + AT_CR0, 0);
+}
+
 /* 128 data pages, each in a frame of its own, and addresses over all of them; for the large storage only. */
 static void many_pages(struct rig *r)
 {
@@ -262,24 +411,49 @@ struct row {
     const char *name;
     void (*change)(struct rig *);
     translate_function *ours, *plain;
-    uint32_t kind, number;
+    uint32_t kind, number, stage;
     size_t least_frames;
 };
 
 #define TRANSLATE drevokas_translate, plain_translate
+#define GOOD TRANSLATE, DREVOKAS_GOOD, 0, DREVOKAS_STAGE_NONE
+#define REFUSED(number) TRANSLATE, DREVOKAS_REFUSED, number, DREVOKAS_STAGE_NONE
+#define GUEST(number, stage) TRANSLATE, DREVOKAS_PROGRAM_EXCEPTION, number, DREVOKAS_STAGE_##stage
+#define HOST(number, stage) TRANSLATE, DREVOKAS_HOST_FAULT, number, DREVOKAS_STAGE_##stage
 
+/* Those behind check are failures alone, in the order of the tests of a byte. */
 static const struct row rows[] = {
-    {"DAT off, fetch", dat_off, TRANSLATE, DREVOKAS_GOOD, 0, 8},
-    {"DAT on, fetch", as_built, TRANSLATE, DREVOKAS_GOOD, 0, 8},
-    {"DAT on, store", store, TRANSLATE, DREVOKAS_GOOD, 0, 8},
-    {"DAT on, two host segments", two_host_segments, TRANSLATE, DREVOKAS_GOOD, 0, 8},
-    {"DAT on, fetch from 128 pages", many_pages, TRANSLATE, DREVOKAS_GOOD, 0, 4096},
-    {"host fault 11 hex", no_host_page, TRANSLATE, DREVOKAS_HOST_FAULT, 0x11, 8},
-    {"segment translation", no_segment, TRANSLATE, DREVOKAS_PROGRAM_EXCEPTION, 0x10, 8},
-    {"key protection", other_key, TRANSLATE, DREVOKAS_PROGRAM_EXCEPTION, 4, 8},
-    {"refusal 1", bad_length, TRANSLATE, DREVOKAS_REFUSED, 1, 8},
-    {"refusal 8", bad_access, TRANSLATE, DREVOKAS_REFUSED, 8, 8},
-    {"check, good", as_built, drevokas_check_only, plain_check_only, DREVOKAS_GOOD, 0, 8},
+    {"DAT off, fetch", dat_off, GOOD, 8},
+    {"DAT on, fetch", as_built, GOOD, 8},
+    {"DAT on, store", store, GOOD, 8},
+    {"DAT on, two host segments", two_host_segments, GOOD, 8},
+    {"DAT on, fetch from 128 pages", many_pages, GOOD, 4096},
+    {"host fault 11 hex", no_host_page, HOST(0x11, HOST_PAGE), 8},
+    {"segment translation", no_segment, GUEST(0x10, GUEST_SEGMENT), 8},
+    {"key protection", other_key, GUEST(4, NONE), 8},
+    {"refusal 1", bad_length, REFUSED(1), 8},
+    {"refusal 8", bad_access, REFUSED(8), 8},
+    {"check, good", as_built, drevokas_check_only, plain_check_only, DREVOKAS_GOOD, 0, DREVOKAS_STAGE_NONE, 8},
+    {"entry fails", bad_entry, TRANSLATE, DREVOKAS_INTERCEPTED, 32, DREVOKAS_STAGE_NONE, 8},
+    {"low-address protection", store_low, GUEST(4, NONE), 8},
+    {"CR0's format", bad_control, GUEST(0x12, NONE), 8},
+    {"segment past table", segment_past_table, GUEST(0x10, GUEST_SEGMENT), 8},
+    {"segment past extent", segment_past_extent, GUEST(5, GUEST_SEGMENT), 8},
+    {"segment, host fault 11 hex", no_host_segment_entry, HOST(0x11, HOST_PAGE), 8},
+    {"segment malformed", segment_malformed, GUEST(0x12, GUEST_SEGMENT), 8},
+    {"page past table", page_past_table, GUEST(0x11, GUEST_PAGE), 8},
+    {"page past extent", page_past_extent, GUEST(5, GUEST_PAGE), 8},
+    {"page, host fault 11 hex", no_host_page_entry, HOST(0x11, HOST_PAGE), 8},
+    {"page invalid", no_page, GUEST(0x11, GUEST_PAGE), 8},
+    {"page malformed", page_malformed, GUEST(0x12, GUEST_PAGE), 8},
+    {"byte past extent", byte_past_extent, GUEST(5, NONE), 8},
+    {"byte past extent, DAT off", real_past_extent, GUEST(5, NONE), 8},
+    {"host fault 10 hex, DAT off", real_no_host_segment, HOST(0x10, HOST_SEGMENT), 8},
+    {"host fault 11 hex, DAT off", real_no_host_page, HOST(0x11, HOST_PAGE), 8},
+    {"host fault 12 hex", host_page_malformed, HOST(0x12, HOST_PAGE), 8},
+    {"host fault 5, frame", no_frame, HOST(5, HOST_PAGE), 8},
+    {"page protection", store_protected, GUEST(4, NONE), 8},
+    {"host fault 4", store_host_protected, HOST(4, NONE), 8},
 };
 
 #define ROWS (sizeof rows / sizeof *rows)
@@ -302,7 +476,8 @@ static int row_is_true(const struct row *row, const struct rig *r)
         uint64_t answer = row->ours(r->record, r->record_len, r->storage, r->frames * DREVOKAS_FRAME_BYTES, r->keys,
                                     r->frames, r->designation, r->addresses[i], r->access, &where);
 
-        if (drevokas_kind(answer) != row->kind || drevokas_number(answer) != row->number) {
+        if (drevokas_kind(answer) != row->kind || drevokas_number(answer) != row->number
+            || drevokas_stage(answer) != row->stage) {
             printf("%s: address %08lx gives %016llx\n", row->name, (unsigned long)r->addresses[i],
                    (unsigned long long)answer);
             return 0;

@@ -26,7 +26,11 @@ counted() { # PROGRAM CASE FRAMES
 
 printf '%-30s %6s %10s %10s\n' case frames drevokas plain
 for name in 'DAT off, fetch' 'DAT on, fetch' 'DAT on, store' 'DAT on, two host segments' 'host fault 11 hex' 'segment translation' 'key protection' \
-    'refusal 1' 'refusal 8' 'check, good'; do
+    'refusal 1' 'refusal 8' 'check, good' 'entry fails' 'low-address protection' "CR0's format" 'segment past table' \
+    'segment past extent' 'segment, host fault 11 hex' 'segment malformed' 'page past table' 'page past extent' \
+    'page, host fault 11 hex' 'page invalid' 'page malformed' 'byte past extent' 'byte past extent, DAT off' \
+    'host fault 10 hex, DAT off' 'host fault 11 hex, DAT off' 'host fault 12 hex' 'host fault 5, frame' 'page protection' \
+    'host fault 4'; do
     counted bench_translate "$name" 8
     counted bench_translate "$name" 4096
 done

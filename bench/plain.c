@@ -1,10 +1,11 @@
-/* Written from document 01 and request 1/12 alone, with their numbers spelt out here a second time, so that nothing is
-   shared with what it is compared with. */
+/* Written from document 01 and requests 1/12 and 2/12 alone, with their numbers spelt out here a second time, so that
+   nothing is shared with what it is compared with. */
 #include "plain.h"
 
 enum { REFUSED = 0, INTERCEPTED = 1, HOST_FAULT = 2, EXCEPTION = 4, GOOD = 5 };
 enum { PERIOD = 40960000 };
 enum { PROTECTION = 4, ADDRESSING = 5, SEGMENT = 0x10, PAGE = 0x11, SPECIFICATION = 0x12, VALIDITY = 32 };
+enum { NO_STAGE = 0, GUEST_SEGMENT = 1, GUEST_PAGE = 2, HOST_SEGMENT = 3, HOST_PAGE = 4 };
 
 #define BIT(i) (0x80000000u >> (i))
 
@@ -37,6 +38,13 @@ static uint32_t word(const uint8_t *p)
 static uint64_t answer(uint64_t kind, uint64_t number)
 {
     return kind << 56 | number << 48;
+}
+
+/* A failure's answer, with *where set. The entry's address is 0 where it was not read; the other one is a host fault's. */
+static uint64_t fail(uint64_t kind, uint64_t number, uint64_t stage, uint32_t entry_at, uint32_t a, uint64_t *where)
+{
+    *where = (uint64_t)entry_at << 32 | a;
+    return answer(kind, number) | stage << 40;
 }
 
 /* Refusal 1 or 2, or 0. */
@@ -82,13 +90,11 @@ static int entry_fails(const uint8_t *record)
 
 /* The tests that a segment entry and a page entry make by themselves: 0 or a program code. */
 
-static unsigned segment_code(uint32_t entry, uint32_t a)
+static unsigned segment_code(uint32_t entry)
 {
     if (entry & BIT(26))
         return SEGMENT;
-    if (entry & BIT(0))
-        return SPECIFICATION;
-    return (a >> 16 & 15) > (entry & 15) ? PAGE : 0;
+    return entry & BIT(0) ? SPECIFICATION : 0;
 }
 
 static unsigned page_code(uint32_t entry)
@@ -103,6 +109,11 @@ static int past_segment_table(uint32_t designation, uint32_t a)
     return a >> 24 > (designation & 127);
 }
 
+static int past_page_table(uint32_t entry, uint32_t a)
+{
+    return (a >> 16 & 15) > (entry & 15);
+}
+
 static uint32_t segment_entry_at(uint32_t designation, uint32_t a)
 {
     return (designation & BLOCK) + (a >> 20) * 4;
@@ -113,29 +124,33 @@ static uint32_t page_entry_at(uint32_t entry, uint32_t a)
     return (entry & 0x7fffffc0u) + (a >> 12 & 255) * 4;
 }
 
-/* The page entry of a host virtual address whose frame is in storage: 0 or a program code. */
-static unsigned host_page(const struct space *s, uint32_t a, uint32_t *entry)
+/* The page entry of a host virtual address whose frame is in storage: 0 or the host fault to answer, with *where set. */
+static uint64_t host_page(const struct space *s, uint32_t a, uint32_t *entry, uint64_t *where)
 {
     uint32_t at = segment_entry_at(s->designation, a), e;
     unsigned code;
 
     if (past_segment_table(s->designation, a))
-        return SEGMENT;
+        return fail(HOST_FAULT, SEGMENT, HOST_SEGMENT, 0, a, where);
     if (at >= s->length)
-        return ADDRESSING;
+        return fail(HOST_FAULT, ADDRESSING, HOST_SEGMENT, 0, a, where);
     e = word(s->storage + at);
-    code = segment_code(e, a);
+    code = segment_code(e);
     if (code)
-        return code;
+        return fail(HOST_FAULT, code, HOST_SEGMENT, at, a, where);
+    if (past_page_table(e, a))
+        return fail(HOST_FAULT, PAGE, HOST_PAGE, 0, a, where);
     at = page_entry_at(e, a);
     if (at >= s->length)
-        return ADDRESSING;
+        return fail(HOST_FAULT, ADDRESSING, HOST_PAGE, 0, a, where);
     e = word(s->storage + at);
     code = page_code(e);
     if (code)
-        return code;
+        return fail(HOST_FAULT, code, HOST_PAGE, at, a, where);
+    if ((e & BLOCK) >= s->length)
+        return fail(HOST_FAULT, ADDRESSING, HOST_PAGE, at, a, where);
     *entry = e;
-    return (e & BLOCK) >= s->length ? ADDRESSING : 0;
+    return 0;
 }
 
 static uint32_t absolute(const struct space *s, uint32_t real)
@@ -147,52 +162,51 @@ static uint32_t absolute(const struct space *s, uint32_t real)
     return block == s->prefix ? real & 4095 : real;
 }
 
-/* The host page entry behind a guest real address: 0 or the answer to give, with *where set for a host fault. */
-static uint64_t reach(const struct space *s, uint32_t real, uint32_t *entry, uint64_t *where)
+/* The host page entry behind a guest real address: 0 or the answer to give, with *where set. Stage is for an address past the
+   extent: the table whose entry stands there, or none. */
+static uint64_t reach(const struct space *s, uint32_t real, uint64_t stage, uint32_t *entry, uint64_t *where)
 {
     uint32_t a = absolute(s, real);
-    unsigned code;
 
     if (a >= s->extent)
-        return answer(EXCEPTION, ADDRESSING);
-    code = host_page(s, s->origin + a, entry);
-    if (code == 0)
-        return 0;
-    *where = s->origin + a;
-    return answer(HOST_FAULT, code);
+        return fail(EXCEPTION, ADDRESSING, stage, 0, 0, where);
+    return host_page(s, s->origin + a, entry, where);
 }
 
-/* A guest table entry at a real address: 0 or the answer to give. */
-static uint64_t guest_entry(const struct space *s, uint32_t real, uint32_t *entry, uint64_t *where)
+/* A guest table entry at a real address: 0 or the answer to give, with *where set. */
+static uint64_t guest_entry(const struct space *s, uint32_t real, uint64_t stage, uint32_t *entry, uint64_t *where)
 {
     uint32_t page = 0;
-    uint64_t stop = reach(s, real, &page, where);
+    uint64_t stop = reach(s, real, stage, &page, where);
 
     if (stop == 0)
         *entry = word(s->storage + ((page & BLOCK) | (real & 4095)));
     return stop;
 }
 
-/* The guest page entry of a virtual address: 0 or the answer to give. */
+/* The guest page entry of a virtual address: 0 or the answer to give, with *where set. */
 static uint64_t guest_page(const struct space *s, uint32_t cr1, uint32_t a, uint32_t *entry, uint64_t *where)
 {
-    uint32_t e = 0;
+    uint32_t at = segment_entry_at(cr1, a), e = 0;
     uint64_t stop;
     unsigned code;
 
     if (past_segment_table(cr1, a))
-        return answer(EXCEPTION, SEGMENT);
-    stop = guest_entry(s, segment_entry_at(cr1, a), &e, where);
+        return fail(EXCEPTION, SEGMENT, GUEST_SEGMENT, 0, 0, where);
+    stop = guest_entry(s, at, GUEST_SEGMENT, &e, where);
     if (stop)
         return stop;
-    code = segment_code(e, a);
+    code = segment_code(e);
     if (code)
-        return answer(EXCEPTION, code);
-    stop = guest_entry(s, page_entry_at(e, a), entry, where);
+        return fail(EXCEPTION, code, GUEST_SEGMENT, at, 0, where);
+    if (past_page_table(e, a))
+        return fail(EXCEPTION, PAGE, GUEST_PAGE, 0, 0, where);
+    at = page_entry_at(e, a);
+    stop = guest_entry(s, at, GUEST_PAGE, entry, where);
     if (stop)
         return stop;
     code = page_code(*entry);
-    return code ? answer(EXCEPTION, code) : 0;
+    return code ? fail(EXCEPTION, code, GUEST_PAGE, at, 0, where) : 0;
 }
 
 static int key_protects(unsigned access_key, unsigned key, int store)
@@ -217,7 +231,7 @@ static uint64_t reach_byte(const struct space *s, const uint8_t *keys, uint32_t 
             return stop;
         real = (guest & BLOCK) | (a & 4095);
     }
-    stop = reach(s, real, &host, where);
+    stop = reach(s, real, NO_STAGE, &host, where);
     if (stop)
         return stop;
     if (store && (guest & BIT(22)))
@@ -387,9 +401,9 @@ static int intercept(struct guest *g, unsigned code, unsigned ilc, unsigned inte
     return 0;
 }
 
-static int host_fault(struct guest *g, unsigned code, uint64_t where)
+static int host_fault(struct guest *g, uint64_t stop, uint64_t where)
 {
-    g->stop = answer(HOST_FAULT, code);
+    g->stop = stop;
     g->where = where;
     return 0;
 }
@@ -400,12 +414,12 @@ static int interrupt(struct guest *g, uint32_t old, uint32_t code, uint32_t new,
 {
     uint32_t entry = 0, at, left, right;
     uint32_t a = g->s.origin + g->s.prefix + old;
-    unsigned failed = host_page(&g->s, a, &entry);
+    uint64_t where = 0, stop = host_page(&g->s, a, &entry, &where);
 
-    if (failed)
-        return host_fault(g, failed, a);
+    if (stop)
+        return host_fault(g, stop, where);
     if (entry & BIT(22))
-        return host_fault(g, PROTECTION, a);
+        return host_fault(g, answer(HOST_FAULT, PROTECTION), a);
     at = entry & BLOCK;
     left = word(g->storage + at + new);
     right = word(g->storage + at + new + 4);
@@ -435,7 +449,7 @@ static int exception(struct guest *g, const struct cpu *before, uint64_t stop, u
 
     if (stop >> 56 == HOST_FAULT) {
         g->c = at_start;
-        return host_fault(g, code, where);
+        return host_fault(g, stop, where);
     }
     if (!translation && g->ilc)
         go_to(&g->c, instruction_address(&g->c) + 2u * g->ilc);
@@ -756,20 +770,20 @@ static int timed_unit(struct guest *g, uint32_t time)
 {
     uint32_t risen = g->residue + 3 * time, entry = 0, a = g->s.origin + g->s.prefix + 80, old;
     struct cpu before = g->c;
-    unsigned failed = 0;
+    uint64_t stop = 0, where = a;
     uint8_t *at;
 
     if (risen >= PERIOD) {
-        failed = host_page(&g->s, a, &entry);
-        if (!failed && (entry & BIT(22)))
-            failed = PROTECTION;
+        stop = host_page(&g->s, a, &entry, &where);
+        if (stop == 0 && (entry & BIT(22)))
+            stop = answer(HOST_FAULT, PROTECTION);
     }
-    g->dry = failed != 0;
+    g->dry = stop != 0;
     if (!unit(g))
         return 0;
-    if (failed) {
+    if (stop) {
         g->c = before;
-        return host_fault(g, failed, a);
+        return host_fault(g, stop, where);
     }
     g->residue = risen;
     if (risen < PERIOD)

@@ -1,8 +1,8 @@
 /*
  * Drevokas: interpretive execution of one 370-XA or System/370 guest CPU with pageable storage.
  *
- * Numbers and byte positions are those of document 01, "Definition of the build and its rules", and of request 1/12 to
- * it. Bit 0 is the leftmost bit, and what stands in bytes is big-endian.
+ * Numbers and byte positions are those of document 01, "Definition of the build and its rules", and of requests 1/12 and
+ * 2/12 to it. Bit 0 is the leftmost bit, and what stands in bytes is big-endian.
  *
  * The record, 200 bytes with version 1, or 208 with version 2, which System/370 needs:
  *   0-1 length (200 or 208); 2 version (1 or 2); 3 intervention requests; 4 mode; 5 interception controls;
@@ -83,7 +83,18 @@ extern "C" {
 #define DREVOKAS_STORE 1u
 #define DREVOKAS_INSTRUCTION_FETCH 2u
 
-/* An answer holds, from the left: kind in bits 0-7, number in bits 8-15, zeros, units completed in bits 32-63. */
+/* The stage of an answer: bits 16-23. The table in which a walk failed, in failures of translate and in a run's host faults;
+   drevokas_translate has a list of them. */
+#define DREVOKAS_STAGE_NONE 0u
+#define DREVOKAS_STAGE_GUEST_SEGMENT 1u
+#define DREVOKAS_STAGE_GUEST_PAGE 2u
+#define DREVOKAS_STAGE_HOST_SEGMENT 3u
+#define DREVOKAS_STAGE_HOST_PAGE 4u
+
+/* An answer holds, from the left: kind in bits 0-7, number in bits 8-15, stage in bits 16-23, zeros, units completed in
+   bits 32-63. Beside it, *where holds an address in its low 32 bits, and in its high 32 bits that of the entry of the table
+   that the stage names: of the entry's first byte, guest real (before prefixing) for the guest's tables, host absolute for
+   the host's. That is zero where the entry was not read, and where it was read and stands at zero. */
 
 #ifdef __cplusplus
 #define DREVOKAS_WORD(number) static_cast<uint32_t>(number)
@@ -101,10 +112,28 @@ static inline uint32_t drevokas_number(uint64_t answer)
     return DREVOKAS_WORD(answer >> 48 & 0xffu);
 }
 
+/* The table in which a walk failed; none in a refusal, in the answers of check, and wherever no walk failed. */
+static inline uint32_t drevokas_stage(uint64_t answer)
+{
+    return DREVOKAS_WORD(answer >> 40 & 0xffu);
+}
+
 /* The units completed, of run; zero in the answers of check and translate and in a refusal. */
 static inline uint32_t drevokas_units(uint64_t answer)
 {
     return DREVOKAS_WORD(answer & 0xffffffffu);
+}
+
+/* The two addresses in *where. A refusal leaves there what stood there before. */
+
+static inline uint32_t drevokas_entry(uint64_t where)
+{
+    return DREVOKAS_WORD(where >> 32);
+}
+
+static inline uint32_t drevokas_address(uint64_t where)
+{
+    return DREVOKAS_WORD(where & 0xffffffffu);
 }
 
 #undef DREVOKAS_WORD
@@ -126,8 +155,8 @@ uint64_t drevokas_check(const uint8_t *record, size_t record_len);
  * 2^24 or 2^31 by PSW bit 32. Of the PSW only bits 5, 8-11 and 32 are used; of a System/370 guest bits 5, 8-11 and 12,
  * and it wraps at 2^24. Answers:
  *
- *   kind                         number                      *where
- *   DREVOKAS_REFUSED             1, 2, 3, 4, 7 or 8          not touched
+ *   kind                         number                      low 32 bits of *where
+ *   DREVOKAS_REFUSED             1, 2, 3, 4, 7 or 8          not touched, nor are the high ones
  *   DREVOKAS_INTERCEPTED         32: entry would fail, or    0
  *                                DAT is on for System/370
  *   DREVOKAS_HOST_FAULT          4, 5, 10, 11 or 12 hex      host virtual address of the byte or of the first byte of
@@ -140,8 +169,24 @@ uint64_t drevokas_check(const uint8_t *record, size_t record_len);
  * protected; 5 table entry or frame beyond the storage; 10, 11 and 12 hex from the host's tables. The first test of
  * document 01 that fails gives the answer.
  *
- * Writes nothing but *where, which must be an aligned uint64_t apart from the record, the storage and the keys. An
- * address stands in its low 32 bits, the high 32 bits being zero.
+ * Stage and high 32 bits of *where. The tables are the guest's for a program exception and the host's for a host fault, also
+ * for one at a guest table entry:
+ *
+ *   number       because                                                stage      high 32 bits of *where
+ *   10 hex       segment beyond the segment table's length              segment    0
+ *   5            segment entry beyond extent (guest), storage (host)    segment    0
+ *   10, 12 hex   segment entry invalid, malformed                       segment    address of the segment entry
+ *   11 hex       page beyond the page table's length                    page       0
+ *   5            page entry beyond extent (guest), storage (host)       page       0
+ *   11, 12 hex   page entry invalid, malformed                          page       address of the page entry
+ *   5            frame beyond the storage (host)                        page       address of the page entry
+ *   4            low-address, page, key or host page protection         none       0
+ *   5            final address of the byte beyond the extent (guest)    none       0
+ *   12 hex       CR0's format (guest)                                   none       0
+ *
+ * A good answer and code 32 have no stage, and zeros there.
+ *
+ * Writes nothing but *where, which must be an aligned uint64_t apart from the record, the storage and the keys.
  */
 uint64_t drevokas_translate(const uint8_t *record, size_t record_len, const uint8_t *storage, size_t storage_len,
                             const uint8_t *keys, size_t keys_len, uint32_t designation, uint32_t address,
@@ -151,11 +196,15 @@ uint64_t drevokas_translate(const uint8_t *record, size_t record_len, const uint
  * Runs the guest for at most `budget` units (0 to 65,535) from the host clock `clock`, with `time` (0 to 1,048,576)
  * clock units for each. Answers:
  *
- *   kind                   number                                 units        *where
- *   DREVOKAS_REFUSED       1, 2, 3, 4, 5, 6 or 7                  0            not touched
+ *   kind                   number                                 units        low 32 bits of *where
+ *   DREVOKAS_REFUSED       1, 2, 3, 4, 5, 6 or 7                  0            not touched, nor are the high ones
  *   DREVOKAS_INTERCEPTED   4, 8, 16, 20, 24, 28, 32, 40 or 44     completed    0
  *   DREVOKAS_HOST_FAULT    4, 5, 10, 11 or 12 hex                 completed    host virtual address
  *   DREVOKAS_BUDGET_USED   0                                      completed    0
+ *
+ * A host fault has stage and high 32 bits of *where as in translate, whatever was accessed: text, operand, interruption area
+ * or the interval timer's word. An interception, for a program exception too, and a budget that is used have no stage, and
+ * zeros there.
  *
  * A refusal changes no byte. Otherwise the record is as document 01 says: the state after the completed units, and
  * bytes 52-65 by the end. A host fault undoes its whole unit: after the host has mended the page, the same call with the

@@ -3,8 +3,10 @@
 #include <string.h>
 
 #include "../include/drevokas.h"
+#include "faulted.h"
 #include "interval.h"
 #include "psw.h"
+#include "stage.h"
 
 /* ---- where ---- */
 
@@ -108,8 +110,19 @@ void add_cause(const struct ending *e, const struct case_file *c, char text[SENT
     if (e->kind == DREVOKAS_INTERCEPTED)
         add_interception_cause(number, c, text);
     else
-        add(text, "host fault %02x hex, %s, at host address %08llx", number, program_words(number),
-            (unsigned long long)e->where);
+        add(text, "host fault %02x hex, %s, at host address %08lx", number, program_words(number),
+            (unsigned long)drevokas_address(e->where));
+}
+
+/* The table entry from which a host fault came, if one did: "; host page entry at 00002004: invalid". */
+static void add_table(const struct ending *e, const struct case_file *c, char *text)
+{
+    uint32_t address;
+
+    if (e->kind != DREVOKAS_HOST_FAULT || drevokas_stage(e->answer) == DREVOKAS_STAGE_NONE)
+        return;
+    add(text, "; ");
+    add_entry(c, faulted_address(e, c, &address) ? &address : NULL, e->answer, e->where, text);
 }
 
 /* ---- the sentence ---- */
@@ -139,8 +152,9 @@ static void fault_sentence(const struct ending *e, const struct case_file *c, ch
 
     add_cause(e, c, text);
     add_doer(&t, text);
-    if (interval_falls(c) && interval_place(c).host == e->where)
+    if (interval_falls(c) && interval_place(c).host == drevokas_address(e->where))
         add(text, ", with the fall of the interval timer's word");
+    add_table(e, c, text);
 }
 
 void ending_sentence(const struct ending *e, const struct case_file *c, char text[SENTENCE])

@@ -13,7 +13,7 @@ static int fetch_byte(const struct case_file *c, struct text *t, unsigned i)
                                    c->frames, c->designation, psw_address(t->psw) + i, DREVOKAS_INSTRUCTION_FETCH, &t->where);
     if (drevokas_kind(t->answer) != DREVOKAS_GOOD)
         return -1;
-    t->bytes[i] = c->storage[t->where];
+    t->bytes[i] = c->storage[drevokas_address(t->where)];
     t->fetched = i + 1;
     return 0;
 }
@@ -43,6 +43,19 @@ int is_whole(const struct text *t)
     return t->length != 0 && t->fetched == t->length;
 }
 
+int text_operand(const struct text *t, const uint8_t *record, uint32_t *address)
+{
+    uint32_t registers[REGISTERS];
+    unsigned i;
+
+    for (i = 0; i < REGISTERS; i++)
+        registers[i] = (uint32_t)get_number(record + find_field("gr0")->at + 4 * i, 4);
+    if (psw_malformed(t->psw) != NULL || !operand_address(t->bytes, t->fetched, registers, address))
+        return 0;
+    *address = psw_wrapped(t->psw, *address);
+    return 1;
+}
+
 /* Why the byte after those that were fetched is not there. */
 static void missing_words(const struct text *t, char *line, size_t room)
 {
@@ -55,7 +68,7 @@ static void missing_words(const struct text *t, char *line, size_t room)
         break;
     case DREVOKAS_HOST_FAULT:
         snprintf(line, room, "(not fetched: host fault %02x hex, %s, at host address %08lx)", number, program_words(number),
-                 (unsigned long)t->where);
+                 (unsigned long)drevokas_address(t->where));
         break;
     case DREVOKAS_INTERCEPTED:
         snprintf(line, room, "(not fetched: %s)", t->no_entry ? "entry fails" : "PSW " DAT_NOT_INSTALLED);

@@ -21,6 +21,9 @@ struct text fetch_text(const struct case_file *c, struct psw psw);
 /* Whether all of the instruction is there. */
 int is_whole(const struct text *t);
 
+/* The logical address of the operand in storage, with the registers of this record. Returns 0 if there is none. */
+int text_operand(const struct text *t, const uint8_t *record, uint32_t *address);
+
 /* The instruction in assembler, or in parentheses why it is not there. */
 void text_words(const struct text *t, char *line, size_t room);
 

@@ -21,6 +21,8 @@ extern const unsigned record_field_count;
 #define MOST_RECORD_BYTES 208u
 unsigned record_bytes(const uint8_t *record);
 
+#define REGISTERS 16u       /* general ones, and control registers */
+
 /* Whether the guest is one of System/370: mode bits 4-5 are 01, in a record of 208 bytes. */
 int is_system370(const uint8_t *record);
 

@@ -31,6 +31,11 @@ unsigned psw_condition_code(struct psw p)
     return psw_form(p) == BC_PSW ? psw_bits(p.bits, 34, 35) : psw_bits(p.bits, 18, 19);
 }
 
+int psw_dat_is_on(struct psw p)
+{
+    return psw_form(p) == XA_PSW && psw_bits(p.bits, 5, 5) != 0;
+}
+
 /* ---- addresses ---- */
 
 uint32_t psw_wrapped(struct psw p, uint32_t address)

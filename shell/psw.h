@@ -21,6 +21,9 @@ unsigned psw_bits(uint64_t psw, unsigned from, unsigned to);
 
 unsigned psw_condition_code(struct psw p);
 
+/* Whether addresses are virtual: DAT is on, of 370-XA. */
+int psw_dat_is_on(struct psw p);
+
 /* The instruction address, and an address wrapped as the PSW's addresses are. */
 uint32_t psw_address(struct psw p);
 uint32_t psw_wrapped(struct psw p, uint32_t address);

@@ -10,19 +10,27 @@
 #include "progress.h"
 #include "words.h"
 
+#define TO_BE_INTERCEPTED 0x40      /* interception control bit 1: program exceptions */
+
 struct ending run_slice(struct case_file *c, uint32_t units)
 {
     struct ending e;
-    uint64_t answer;
 
     e.where = 0;
-    answer = drevokas_run(c->record, record_bytes(c->record), c->storage, (size_t)c->frames * FRAME_BYTES, c->keys, c->frames,
-                          c->designation, c->clock, c->time, units, &e.where);
-    e.kind = drevokas_kind(answer);
-    e.number = drevokas_number(answer);
-    e.units = drevokas_units(answer);
+    e.answer = drevokas_run(c->record, record_bytes(c->record), c->storage, (size_t)c->frames * FRAME_BYTES, c->keys, c->frames,
+                            c->designation, c->clock, c->time, units, &e.where);
+    e.kind = drevokas_kind(e.answer);
+    e.number = drevokas_number(e.answer);
+    e.units = drevokas_units(e.answer);
     c->clock += e.units * c->time;
     return e;
+}
+
+struct ending intercepted_unit(const struct case_file *c, struct case_file *copy)
+{
+    *copy = *c;
+    copy->record[find_field("interceptions")->at] |= TO_BE_INTERCEPTED;
+    return run_slice(copy, 1);
 }
 
 struct ending run_units(struct case_file *c, uint32_t units, struct course *k)

@@ -12,7 +12,7 @@
 struct ending {
     uint32_t kind, number;  /* as drevokas.h says */
     uint64_t units;         /* completed, in all */
-    uint64_t where;         /* host virtual address of a host fault */
+    uint64_t answer, where; /* the library's, of the last call */
 };
 
 /* One call of the library for at most this many units, 65,535 at most. The case file is then as the run left it, its clock
@@ -21,6 +21,9 @@ struct ending run_slice(struct case_file *c, uint32_t units);
 
 /* The same for any number of units: slices, each from where the one before it ended, as long as the run goes on. */
 struct ending run_units(struct case_file *c, uint32_t units, struct course *k);
+
+/* One unit of a copy that is like c, but program exceptions are intercepted. What it leaves is in copy. */
+struct ending intercepted_unit(const struct case_file *c, struct case_file *copy);
 
 /* Runs a case file, and may print lines of its own. */
 typedef struct ending run_function(FILE *to, struct case_file *c, uint32_t units, struct course *k);

@@ -10,7 +10,7 @@ static const struct usage usage = {
     "  H CODE UNITS     host fault with this program code\n"
     "  B 0 UNITS        budget used, or interrupted by a signal\n"
     "All numbers are decimal; UNITS are the units completed. A sentence on standard error says why the\n"
-    "run ended, and where.\n\n"
+    "run ended, and where; of a host fault also which entry of the host's tables was bad.\n\n"
     RUN_OPTIONS_HELP,
     NULL, 1, RUN_OPTIONS,
 };

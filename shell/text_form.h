@@ -21,7 +21,6 @@
 #define MOST_PAGE_NAME 40
 #define PAGES (1u << 19)
 #define BLOCK_PAGES 16u                         /* in a block of 64 KiB, the origin's unit */
-#define REGISTERS 16u
 #define MOST_NAME (MOST_LINE_LENGTH + 1)
 #define PSW_BITS 64u
 #define FORM_BIT 12u                            /* of a System/370 PSW: one is EC, zero BC */

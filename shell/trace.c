@@ -18,8 +18,6 @@
 #define PROGRAM_CODE 140u
 #define SVC_OLD 32u         /* and the same for SVC */
 #define SVC_CODE 136u
-#define REGISTERS 16
-#define TO_BE_INTERCEPTED 0x40      /* interception control bit 1: program exceptions */
 
 static const struct usage usage = {
     "trace FILE [--budget N] [--after OUT [--checkpoint N]] [--quiet]",
@@ -97,24 +95,18 @@ static void print_registers(const struct trace *r, const struct case_file *c)
 
 static void print_operand(const struct trace *r, const struct text *t)
 {
-    uint32_t registers[REGISTERS], address;
-    unsigned i;
+    uint32_t address;
 
-    for (i = 0; i < REGISTERS; i++)
-        registers[i] = (uint32_t)get_number(r->before.record + find_field("gr0")->at + 4 * i, 4);
-    if (psw_malformed(t->psw) == NULL && operand_address(t->bytes, t->fetched, registers, &address))
-        fprintf(r->to, "  operand %08lx", (unsigned long)psw_wrapped(t->psw, address));
+    if (text_operand(t, r->before.record, &address))
+        fprintf(r->to, "  operand %08lx", (unsigned long)address);
 }
 
 /* Whether the unit ended in a program interruption: it would then be intercepted, with the same code and address, if program
    exceptions were. The case file after that is left in probe. */
 static int is_program_interruption(const struct trace *r, struct case_file *probe)
 {
-    struct ending e;
+    struct ending e = intercepted_unit(&r->before, probe);
 
-    *probe = r->before;
-    probe->record[find_field("interceptions")->at] |= TO_BE_INTERCEPTED;
-    e = run_slice(probe, 1);
     return e.kind == DREVOKAS_INTERCEPTED && e.number == DREVOKAS_CODE_PROGRAM;
 }
 

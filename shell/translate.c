@@ -6,6 +6,7 @@
 #include "arguments.h"
 #include "command.h"
 #include "psw.h"
+#include "stage.h"
 #include "words.h"
 
 static const struct usage usage = {
@@ -18,7 +19,9 @@ static const struct usage usage = {
     "  fault CODE hex at ADDRESS: SENTENCE   the host fault and its host virtual address\n"
     "  I 32: SENTENCE                        entry would fail, and why; or DAT is on for System/370\n"
     "  R NUMBER: SENTENCE                    refused, and why\n"
-    "An address is printed as eight hexadecimal digits.\n\n"
+    "An address is printed as eight hexadecimal digits. If a table entry is to blame, a message on\n"
+    "standard error says which: guest or host, segment or page, its address (of the guest's entries real,\n"
+    "of the host's absolute), and what is wrong with it.\n\n"
     "  --access KIND    fetch (an operand; if nothing is said), store, or instruction\n\n"
     "Exit status: 0, 1 if it is refused, 2 for bad usage or a file that cannot be read.\n",
     NULL, 2, {"--access"},
@@ -60,7 +63,7 @@ static int address_of(const char *text, uint64_t *address)
 static int print_answer(const struct case_file *c, uint64_t answer, uint64_t where)
 {
     unsigned number = (unsigned)drevokas_number(answer);
-    unsigned long at = (unsigned long)where;
+    unsigned long at = (unsigned long)drevokas_address(where);
     char text[SENTENCE];
 
     switch (drevokas_kind(answer)) {
@@ -85,13 +88,29 @@ static int print_answer(const struct case_file *c, uint64_t answer, uint64_t whe
     }
 }
 
-static int translate(const struct case_file *c, uint32_t address, uint32_t access)
+/* The table entry at which the translation failed, if it did at one. */
+static void name_entry(const char *name, const struct case_file *c, uint32_t address, uint64_t answer, uint64_t where)
+{
+    struct psw psw = psw_of(c->record);
+    uint32_t virtual = psw_wrapped(psw, address);
+    char text[SENTENCE] = "";
+
+    add_entry(c, psw_dat_is_on(psw) ? &virtual : NULL, answer, where, text);
+    if (text[0] != '\0')
+        complain("%s: %s", name, text);
+}
+
+/* The line is out before the message. */
+static int translate(const char *name, const struct case_file *c, uint32_t address, uint32_t access)
 {
     uint64_t where = 0;
     uint64_t answer = drevokas_translate(c->record, record_bytes(c->record), c->storage, (size_t)c->frames * FRAME_BYTES,
                                          c->keys, c->frames, c->designation, address, access, &where);
+    int status = finished(print_answer(c, answer, where));
 
-    return print_answer(c, answer, where);
+    if (status == STATUS_GOOD)
+        name_entry(name, c, address, answer, where);
+    return status;
 }
 
 int command_translate(int argc, char **argv)
@@ -111,5 +130,7 @@ int command_translate(int argc, char **argv)
     status = load(a.operands[0], &c);
     if (status == STATUS_REFUSED)
         printf("R 9: case file malformed\n");
-    return finished(status == GO_ON ? translate(&c, (uint32_t)address, access) : status);
+    if (status != GO_ON)
+        return finished(status);
+    return translate(shown_name(a.operands[0]), &c, (uint32_t)address, access);
 }

@@ -6,8 +6,8 @@
 #include "fields.h"
 
 #define PAGE_TABLE 0x7fffffc0u      /* bits 1-25: a page table's address */
-#define SEGMENT_ZERO TABLE_BIT(0)
 #define BLOCK_SHIFT 16              /* origin and extent count 64 KiB */
+#define ENTRIES_AT_ONCE 16u         /* a table of length 0 has 16 entries, and 16 more for each further length */
 
 /* ---- tables and their words ---- */
 
@@ -38,11 +38,16 @@ uint64_t absolute_of(uint32_t prefix, uint64_t real)
     return block == prefix ? real & 0xfff : real;
 }
 
+uint64_t host_virtual(const struct tables *guest, uint32_t real)
+{
+    return guest->origin + absolute_of(guest->prefix, real);
+}
+
 /* Where a word of the tables stands in storage. Returns 0, or -1 if it is beyond the storage, or, of the guest's tables, beyond
    the extent or in a page that the host does not have. It is on a word boundary, so it does not cross an end. */
 static int place_of(const struct tables *t, uint32_t at, uint32_t *place)
 {
-    uint64_t host = t->origin + absolute_of(t->prefix, at);
+    uint64_t host = host_virtual(t, at);
     struct host_page p;
 
     *place = at;
@@ -65,30 +70,51 @@ static int read_entry(const struct tables *t, uint32_t at, uint32_t *place, uint
 
 /* ---- the walk ---- */
 
-/* The segment entry: 0 or a program code. */
-static unsigned segment_step(const struct tables *t, uint32_t address, struct host_page *p, uint32_t *entry)
+static uint32_t segment_index(uint32_t address)
 {
-    uint32_t index = address >> 20 & 0x7ff;
+    return address >> 20 & 0x7ff;
+}
 
-    if (index >> 4 > (t->designation & 0x7f))
+static uint32_t page_index(uint32_t address)
+{
+    return address >> 12 & 0xff;
+}
+
+static uint32_t segment_entries(uint32_t designation)
+{
+    return ((designation & 0x7f) + 1) * ENTRIES_AT_ONCE;
+}
+
+static uint32_t page_entries(uint32_t segment)
+{
+    return ((segment & 0xf) + 1) * ENTRIES_AT_ONCE;
+}
+
+/* The segment entry: 0 or a program code. */
+static unsigned segment_step(const struct tables *t, uint32_t address, struct host_page *p)
+{
+    uint32_t index = segment_index(address);
+
+    if (index >= segment_entries(t->designation))
         return DREVOKAS_SEGMENT_TRANSLATION;
-    p->segment_at = (t->designation & BLOCK) + 4 * index;
-    if (read_entry(t, p->segment_at, &p->segment_place, entry) != 0)
+    p->segment_at = (t->designation & BLOCK) + ENTRY_BYTES * index;
+    if (read_entry(t, p->segment_at, &p->segment_place, &p->segment) != 0)
         return DREVOKAS_ADDRESSING;
     p->segment_read = 1;
-    if (*entry & SEGMENT_INVALID)
+    if (p->segment & SEGMENT_INVALID)
         return DREVOKAS_SEGMENT_TRANSLATION;
-    return *entry & SEGMENT_ZERO ? DREVOKAS_TRANSLATION_SPECIFICATION : 0;
+    return p->segment & SEGMENT_ZERO ? DREVOKAS_TRANSLATION_SPECIFICATION : 0;
 }
 
 /* The page entry, from a valid segment entry: 0 or a program code. */
-static unsigned page_step(const struct tables *t, uint32_t address, uint32_t segment, struct host_page *p)
+static unsigned page_step(const struct tables *t, uint32_t address, struct host_page *p)
 {
-    uint32_t index = address >> 12 & 0xff;
+    uint32_t index = page_index(address);
 
-    if (index >> 4 > (segment & 0xf))
+    p->page_sought = 1;
+    if (index >= page_entries(p->segment))
         return DREVOKAS_PAGE_TRANSLATION;
-    p->page_at = (segment & PAGE_TABLE) + 4 * index;
+    p->page_at = (p->segment & PAGE_TABLE) + ENTRY_BYTES * index;
     if (read_entry(t, p->page_at, &p->page_place, &p->entry) != 0)
         return DREVOKAS_ADDRESSING;
     p->page_read = 1;
@@ -100,12 +126,11 @@ static unsigned page_step(const struct tables *t, uint32_t address, uint32_t seg
 struct host_page walk_tables(const struct tables *t, uint32_t address)
 {
     struct host_page p;
-    uint32_t segment = 0;
 
     memset(&p, 0, sizeof p);
-    p.code = segment_step(t, address, &p, &segment);
+    p.code = segment_step(t, address, &p);
     if (p.code == 0)
-        p.code = page_step(t, address, segment, &p);
+        p.code = page_step(t, address, &p);
     if (p.code != 0)
         return p;
     p.valid = 1;
@@ -121,6 +146,20 @@ struct host_page walk(const struct case_file *c, uint32_t address)
     struct tables t = tables_of_host(c);
 
     return walk_tables(&t, address);
+}
+
+struct last_entry last_entry(const struct tables *t, const struct host_page *p, uint32_t address)
+{
+    struct last_entry e;
+
+    e.is_page = p->page_sought;
+    e.is_read = e.is_page ? p->page_read : p->segment_read;
+    e.table = e.is_page ? p->segment & PAGE_TABLE : t->designation & BLOCK;
+    e.entries = e.is_page ? page_entries(p->segment) : segment_entries(t->designation);
+    e.index = e.is_page ? page_index(address) : segment_index(address);
+    e.at = e.table + ENTRY_BYTES * e.index;
+    e.word = e.is_page ? p->entry : p->segment;
+    return e;
 }
 
 unsigned entry_frames(const struct host_page *p)

@@ -443,7 +443,7 @@ def loop():
     drawn = box(30, 62, 210, 62, ["The host", "makes record, storage,", "keys and its tables"], PLAIN)
     drawn += path([(240, 93), (333, 93)])
     drawn += box(335, 62, 240, 62, ["drevokas_run", "designation, clock, time,", "budget"], GUEST)
-    drawn += path([(455, 124), (455, 174)]) + text(466, 154, "answer: kind, number, units; *where", 13, fill=DIM)
+    drawn += path([(455, 124), (455, 174)]) + text(466, 154, "answer: kind, number, stage, units; *where", 13, fill=DIM)
     drawn += box(335, 176, 240, 46, ["clock += units x time", "whatever the end"], PLAIN)
     for i, end in enumerate(ENDS):
         drawn += end_column(i, *end)

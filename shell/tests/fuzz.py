@@ -1,10 +1,11 @@
 #!/usr/bin/env python3
 """fuzz.py COMMAND FOLDER COUNT [SEED]: COUNT damaged texts through `make`, half of them with `--from` and a damaged case file;
-COUNT damaged case files through `explain` and `run`.
+COUNT damaged case files through `explain`, `run` and `translate`.
 
 Each call must end by itself within a second of CPU time, by no signal, with exit status 0, 1 or 2, and with a message on
-standard error if that is not 0. A file is left by make only with status 0, and is then a case file. Prints the seed, each
-failure with the name of the input, which is kept in FOLDER, and a count; fails if there is a failure."""
+standard error, or of translate with its line, if that is not 0. A file is left by make only with status 0, and is then a case
+file. Prints the seed, each failure with the name of the input, which is kept in FOLDER, and a count; fails if there is a
+failure."""
 import glob
 import os
 import random
@@ -47,7 +48,7 @@ def call(name, *arguments):
         return None
     if p.returncode not in (0, 1, 2):
         fail(f"{arguments[0]} ended with {p.returncode}: {p.stderr[:2000].decode(errors='replace')}", name)
-    elif p.returncode != 0 and not p.stderr.strip():
+    elif p.returncode != 0 and not (p.stderr + (p.stdout if arguments[0] == "translate" else b"")).strip():
         fail(f"{arguments[0]} ended with {p.returncode} and no message", name)
     ends[arguments[0], p.returncode] = ends.get((arguments[0], p.returncode), 0) + 1
     return p.returncode
@@ -69,6 +70,7 @@ LINES = ["at virtual X'7FFFFFFF'", "at frame 7 0FFF", "space 32768", "align 4096
          "mode.system = 370", "mode.system = xa", "mode.inactive = 1", "length = 208", "length = 200",
          "version = 2", "interval = -1", "residue = 40960000", "request.t = 1", "psw.ec = 1", "psw.channels = 63", "psw.cc = 3",
          "psw ec=1, cc=3, address=start", "psw code=X'80', ilc=2", "SIO 0(1)", "SIO L 1,2"]
+ACCESSES = ["fetch", "store", "instruction"]
 OPCODES = [0x07, 0x0A, 0x18, 0x1A, 0x41, 0x47, 0x50, 0x58, 0x82, 0x9C, 0x9D, 0xB2, 0xB6, 0xB7]
 
 
@@ -222,7 +224,8 @@ def fuzz_case(cases, i):
     with open(name, "wb") as f:
         f.write(damage_case(r.choice(cases)))
     before = failures
-    for arguments in (["explain", name], ["run", name]):
+    address = f"{r.randrange(2**32) >> r.choice([0, 8, 16, 20]):x}"
+    for arguments in (["explain", name], ["run", name], ["translate", name, address, "--access", r.choice(ACCESSES)]):
         if call(name, *arguments) == 2:
             fail(f"{arguments[0]} calls a damaged file unreadable", name)
     if failures == before:

@@ -1,8 +1,9 @@
 #!/bin/sh
 # Builds the command and tests it: every sub-command, good and bad input, messages and exit status; all kept case files; runs
-# that are cut and resumed; traces; files that cannot be written; signals; the shell's own statement of the rules against the
-# library; then, under valgrind if it is there, every sub-command that reads a case file on every kept one; and damaged files.
-# Prints each failure, and a count. Fails if anything fails; a command that does not end by itself is ended, and has failed.
+# that are cut and resumed; traces; files that cannot be written; signals; the table entries that are named where a translation
+# fails; the shell's own statement of the rules against the library; then, under valgrind if it is there, every sub-command that
+# reads a case file on every kept one; and damaged files. Prints each failure, and a count. Fails if anything fails; a command
+# that does not end by itself is ended, and has failed.
 set -eu
 . "$(dirname "$0")/../../tools/plain.sh"
 cd "$(dirname "$0")/../.."
@@ -180,8 +181,8 @@ test_translate() {
     says 0 'good 00000fff: frame 0, offset fff hex' '' translate "$FILES/ar.in" 0XFFF --access=store
     says 0 'exception 05 hex: addressing, a program exception of the guest' '' translate "$FILES/ar.in" 10000
     for address in 1000 0x1000 0X1000 "X'1000'" "x'00001000'" X1000; do
-        says 0 'fault 11 hex at 00001000: page translation, a host fault at that host address' '' \
-            translate "$FILES/ar.in" "$address" --access fetch
+        says 0 'fault 11 hex at 00001000: page translation, a host fault at that host address' \
+            'ar.in: host page entry at 00000f44: invalid' translate "$FILES/ar.in" "$address" --access fetch
     done
     says 2 '' 'address 0b10: is it hexadecimal, 0x0b10, or binary?' translate "$FILES/ar.in" 0b10
     says 0 'good 00000b10: frame 0, offset b10 hex' '' translate "$FILES/ar.in" 0x0b10
@@ -435,6 +436,7 @@ test_views
 test_system_370
 test_programs
 timeout 120 python3 shell/tests/words_test.py "$ROOT/target/bin/drevokas" || fail shell/tests/words_test.py
+timeout 120 python3 shell/tests/stage_test.py "$ROOT/target/bin/drevokas" || fail shell/tests/stage_test.py
 timeout 300 sh shell/tests/fuzz.sh || fail shell/tests/fuzz.sh
 echo "$tests shell tests, $failed failed"
 [ "$failed" -eq 0 ]

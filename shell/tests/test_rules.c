@@ -8,6 +8,7 @@
 #include "../case_file.h"
 #include "../interval.h"
 #include "../psw.h"
+#include "../stage.h"
 #include "../walk.h"
 #include "../words.h"
 
@@ -16,6 +17,7 @@
 #define HOSTS 4000          /* pseudo-random ones */
 #define PAGES 64            /* of each that are compared */
 #define FEW 500             /* each thing that a walk can find is to be found so often */
+#define AT_ZERO 50          /* and a table entry at address 0 so often */
 #define RECORDS 200000
 #define PSWS 20000
 
@@ -52,34 +54,63 @@ static uint64_t get(const struct case_file *c, const char *name)
 
 /* ---- the walk ---- */
 
-/* Whether translate answers so, for an access with DAT off, prefix 0 and key 0. */
-static int answers(const struct case_file *c, uint32_t address, uint32_t access, uint32_t kind, uint32_t number, uint64_t place)
-{
-    uint64_t where = 0;
-    uint64_t answer = drevokas_translate(c->record, record_bytes(c->record), c->storage, (size_t)c->frames * FRAME_BYTES,
-                                         c->keys, c->frames, c->designation, address, access, &where);
+/* What translate answers, taken apart. */
+struct answer {
+    uint32_t kind, number, place, stage, entry;
+};
 
-    return drevokas_kind(answer) == kind && drevokas_number(answer) == number && where == place;
+static struct answer taken_apart(uint64_t answer, uint64_t where)
+{
+    struct answer a;
+
+    a.kind = drevokas_kind(answer);
+    a.number = drevokas_number(answer);
+    a.place = drevokas_address(where);
+    a.stage = drevokas_stage(answer);
+    a.entry = drevokas_entry(where);
+    return a;
+}
+
+static uint64_t translate(const struct case_file *c, uint32_t address, uint32_t access, uint64_t *where)
+{
+    *where = 0;
+    return drevokas_translate(c->record, record_bytes(c->record), c->storage, (size_t)c->frames * FRAME_BYTES, c->keys,
+                              c->frames, c->designation, address, access, where);
+}
+
+static struct answer translated(const struct case_file *c, uint32_t address, uint32_t access)
+{
+    uint64_t where, answer = translate(c, address, access, &where);
+
+    return taken_apart(answer, where);
+}
+
+static int is_same(struct answer a, struct answer b)
+{
+    return a.kind == b.kind && a.number == b.number && a.place == b.place && a.stage == b.stage && a.entry == b.entry;
+}
+
+/* Whether translate answers so, for an access with DAT off, prefix 0 and key 0. */
+static int answers(const struct case_file *c, uint32_t address, uint32_t access, struct answer right)
+{
+    return is_same(translated(c, address, access), right);
 }
 
 static void compare_page(const struct case_file *c, const char *name, uint32_t page)
 {
     uint32_t address = page * FRAME_BYTES, host = ((uint32_t)get(c, "origin") << 16) + address;
+    struct tables t = tables_of_host(c);
     struct host_page p = walk(c, host);
-    uint64_t frame = (uint64_t)p.frame * FRAME_BYTES;
+    struct last_entry e = last_entry(&t, &p, host);
+    struct answer good = {DREVOKAS_GOOD, 0, p.frame * FRAME_BYTES, DREVOKAS_STAGE_NONE, 0};
+    struct answer guarded = {DREVOKAS_HOST_FAULT, DREVOKAS_PROTECTION, host, DREVOKAS_STAGE_NONE, 0};
+    struct answer fault = {DREVOKAS_HOST_FAULT, p.code, host, 0, e.is_read ? e.at : 0};
 
+    fault.stage = e.is_page ? DREVOKAS_STAGE_HOST_PAGE : DREVOKAS_STAGE_HOST_SEGMENT;
     seen[p.code]++;
     seen_protected += p.code == 0 && p.is_protected;
-    if (p.code != 0) {
-        expect(answers(c, address, FETCH, DREVOKAS_HOST_FAULT, p.code, host), "a fetch that faults", name, address);
-        expect(answers(c, address, STORE, DREVOKAS_HOST_FAULT, p.code, host), "a store that faults", name, address);
-        return;
-    }
-    expect(answers(c, address, FETCH, DREVOKAS_GOOD, 0, frame), "a fetch", name, address);
-    if (p.is_protected)
-        expect(answers(c, address, STORE, DREVOKAS_HOST_FAULT, DREVOKAS_PROTECTION, host), "a protected page", name, address);
-    else
-        expect(answers(c, address, STORE, DREVOKAS_GOOD, 0, frame), "a store", name, address);
+    expect(answers(c, address, FETCH, p.code != 0 ? fault : good), "a fetch", name, address);
+    expect(answers(c, address, STORE, p.code != 0 ? fault : p.is_protected ? guarded : good), "a store", name, address);
 }
 
 /* DAT off, 31-bit mode, prefix 0, access key 0, low addresses not protected. */
@@ -150,6 +181,171 @@ static void compare_hosts(void)
     for (i = 0; i < sizeof codes / sizeof *codes; i++)
         expect(seen[codes[i]] >= FEW, "too few of this code", "random hosts", codes[i]);
     expect(seen_protected >= FEW, "too few protected pages", "random hosts", 0);
+}
+
+/* ---- the table entry at which a translation fails ---- */
+
+static unsigned long seen_entries[5][256][2], seen_at_zero[5];  /* by stage and code, not read and read; read at address 0 */
+static unsigned long seen_unread[2];                            /* guest segment and page entries that the host cannot give */
+
+/* A guest with DAT on whose tables, as the host's, are anywhere in storage and of any length. */
+static void random_guest(struct case_file *c)
+{
+    random_host(c);
+    if (random_word() % 8)
+        c->designation = (c->designation & 127) | random_word() % c->frames * FRAME_BYTES;
+    if (random_word() % 4)
+        set(c, "origin", random_word() % 3);
+    set(c, "extent", random_word() % 4 ? 1 + random_word() % 32 : 1 + random_word() % (32768 - get(c, "origin")));
+    set(c, "psw", UINT64_C(0x0408000080000000));
+    set(c, "cr0", 0x00b00000);
+    set(c, "cr1", (random_word() % 8 ? random_word() & 0x7000 : random_word() & 0x7ffff000) |
+                  (random_word() % 2 ? 127 : random_word() % 4));
+    set(c, "prefix", random_word() % 16 * FRAME_BYTES);
+}
+
+/* Puts a word where a guest's or a host's entry stands. Returns 0 if the change leads the way to it elsewhere. */
+static int put_entry(struct case_file *c, const struct tables *t, uint32_t at, uint32_t word)
+{
+    uint32_t host = (uint32_t)host_virtual(t, at), place = at;
+
+    if (t->is_guest)
+        place = walk(c, host).frame * FRAME_BYTES + at % FRAME_BYTES;
+    put_number(c->storage + place, 4, word);
+    return !t->is_guest || walk(c, host).frame == place / FRAME_BYTES;
+}
+
+/* Mends what the sentence names: an entry that was read, or the length of a table. Returns 0 where nothing can be mended. */
+static int is_mended(struct case_file *c, const struct tables *t, const struct host_page *p, const struct last_entry *e)
+{
+    if (e->is_read)
+        return put_entry(c, t, e->at, 0);
+    if (e->index < e->entries)
+        return 0;
+    if (e->is_page)
+        return put_entry(c, t, p->segment_at, p->segment | 15);
+    if (t->is_guest)
+        set(c, "cr1", t->designation | 127);
+    else
+        c->designation |= 127;
+    return 1;
+}
+
+/* The sentence has a reason, which holds: what it names is mended, and the answer is another one; and an entry that is not read
+   for its address is past the end. */
+static void compare_reason(const struct case_file *c, uint32_t address, struct answer a, const char *text)
+{
+    static struct case_file mended;
+    int is_guest = a.stage <= DREVOKAS_STAGE_GUEST_PAGE;
+    struct tables t = is_guest ? tables_of_guest(c) : tables_of_host(c);
+    uint32_t from = is_guest ? address : a.place;
+    struct host_page p = walk_tables(&t, from);
+    struct last_entry e = last_entry(&t, &p, from);
+
+    seen_entries[a.stage][a.number][e.is_read]++;
+    seen_at_zero[a.stage] += e.is_read && a.entry == 0;
+    expect(strstr(text, e.is_read ? " entry at " : " entry not read: ") != NULL, text, "not read, or read", address);
+    expect(strstr(text, ": ") != NULL, text, "no reason", address);
+    if (!e.is_read && e.index < e.entries)
+        expect(e.at >= (is_guest ? t.extent : c->frames * (uint64_t)FRAME_BYTES), text, "not past the end", address);
+    mended = *c;
+    if (is_mended(&mended, &t, &p, &e))
+        expect(!is_same(translated(&mended, address, FETCH), a), text, "not the reason", address);
+}
+
+/* It is a guest's own entry that the host cannot give where the fault's address does not go by the byte's place in its page: a
+   segment entry where it does not go by the page either. */
+static void compare_unread(const struct case_file *c, uint32_t address, struct answer a, const char *text)
+{
+    int is_entry = a.kind == DREVOKAS_HOST_FAULT && translated(c, address ^ 4, FETCH).place == a.place;
+    int is_segment = is_entry && translated(c, address ^ FRAME_BYTES, FETCH).place == a.place;
+
+    int is_page = is_entry && !is_segment;
+
+    expect(is_segment == (strstr(text, "; so the guest segment entry at real ") != NULL), text, "guest segment", address);
+    expect(is_page == (strstr(text, "; so the guest page entry at real ") != NULL), text, "guest page", address);
+    seen_unread[0] += is_segment;
+    seen_unread[1] += is_page;
+}
+
+static void compare_entry(const struct case_file *c, uint32_t address)
+{
+    uint64_t where, answer = translate(c, address, FETCH, &where);
+    struct answer a = taken_apart(answer, where);
+    char text[SENTENCE] = "";
+
+    add_entry(c, &address, answer, where, text);
+    if (a.stage == DREVOKAS_STAGE_NONE) {
+        expect(a.entry == 0 && text[0] == '\0', text, "no stage", address);
+        return;
+    }
+    compare_reason(c, address, a, text);
+    compare_unread(c, address, a, text);
+}
+
+/* Every end of a walk was found often enough, at each of the stages that have it. */
+static void expect_all_ends(void)
+{
+    static const struct {
+        uint32_t first;         /* stage of the guest; that of the host is two more */
+        uint32_t code;
+        int unread, read;       /* the entry may not have been read, or it may have been */
+    } ends[] = {
+        {DREVOKAS_STAGE_GUEST_SEGMENT, 0x05, 1, 0}, {DREVOKAS_STAGE_GUEST_SEGMENT, 0x10, 1, 1},
+        {DREVOKAS_STAGE_GUEST_SEGMENT, 0x12, 0, 1}, {DREVOKAS_STAGE_GUEST_PAGE, 0x05, 1, 0},
+        {DREVOKAS_STAGE_GUEST_PAGE, 0x11, 1, 1},    {DREVOKAS_STAGE_GUEST_PAGE, 0x12, 0, 1},
+    };
+    uint32_t stage;
+    size_t i;
+
+    for (i = 0; i < 2 * sizeof ends / sizeof *ends; i++) {
+        unsigned long *found;
+
+        stage = ends[i / 2].first + i % 2 * 2;
+        found = seen_entries[stage][ends[i / 2].code];
+        expect(!ends[i / 2].unread || found[0] >= FEW, "too few entries not read", "random guests", stage);
+        expect(!ends[i / 2].read || found[1] >= FEW, "too few entries read", "random guests", stage);
+    }
+    for (stage = DREVOKAS_STAGE_GUEST_SEGMENT; stage <= DREVOKAS_STAGE_HOST_PAGE; stage++)
+        expect(seen_at_zero[stage] >= AT_ZERO, "too few at address 0", "random guests", stage);
+    expect(seen_entries[DREVOKAS_STAGE_HOST_PAGE][0x05][1] >= FEW, "too few frames beyond the storage", "random guests", 0);
+    expect(seen_unread[0] >= FEW && seen_unread[1] >= FEW, "too few entries that the host cannot give", "random guests", 0);
+}
+
+static void compare_entries(void)
+{
+    static const uint32_t masks[] = {0x7fffffff, 0xfffff, 0xfff};     /* any page, one of segment 0, page 0 */
+    static struct case_file c;
+    unsigned i, j;
+
+    for (i = 0; i < HOSTS; i++) {
+        random_guest(&c);
+        for (j = 0; j < PAGES; j++)
+            compare_entry(&c, random_word() & masks[j % 3]);
+    }
+    expect_all_ends();
+}
+
+/* An answer that the shell's own walk does not bear out is given without a reason. */
+static void expect_no_reason(const struct case_file *c, uint64_t stage, uint64_t entry, const char *right)
+{
+    uint64_t fault = (uint64_t)DREVOKAS_HOST_FAULT << 56 | (uint64_t)DREVOKAS_PAGE_TRANSLATION << 48;
+    char text[SENTENCE] = "";
+
+    add_entry(c, NULL, fault | stage << 40, entry << 32, text);
+    expect(strcmp(text, right) == 0, text, "without a reason", (unsigned long)entry);
+}
+
+static void test_no_reason(void)
+{
+    static struct case_file c;      /* zeros: page 0 is valid */
+
+    c.frames = 1;
+    expect_no_reason(&c, DREVOKAS_STAGE_NONE, 0, "");
+    expect_no_reason(&c, DREVOKAS_STAGE_HOST_PAGE, 0x2004, "host page entry at 00002004");
+    expect_no_reason(&c, DREVOKAS_STAGE_HOST_SEGMENT, 0, "host segment entry");
+    expect_no_reason(&c, DREVOKAS_STAGE_GUEST_PAGE, 8, "guest page entry at real 00000008");
+    expect_no_reason(&c, DREVOKAS_STAGE_GUEST_SEGMENT, 0, "guest segment entry");
 }
 
 /* ---- entry ---- */
@@ -289,7 +485,8 @@ static void compare_fall(struct case_file *c)
     answer = drevokas_run(c->record, MOST_RECORD_BYTES, c->storage, (size_t)c->frames * FRAME_BYTES, c->keys, c->frames,
                           c->designation, 0, c->time, 1, &where);
     if (drevokas_kind(answer) == DREVOKAS_HOST_FAULT)
-        expect(!falls || i.code == drevokas_number(answer) || where != i.host, "the fault of a fall", "timer", prefix);
+        expect(!falls || i.code == drevokas_number(answer) || drevokas_address(where) != i.host, "the fault of a fall", "timer",
+               prefix);
     if (drevokas_kind(answer) != DREVOKAS_BUDGET_USED)
         return;
     seen[falls ? 1 : 0]++;
@@ -348,6 +545,8 @@ int main(int argc, char **argv)
     for (i = 1; i < argc; i++)
         compare_file(argv[i]);
     compare_hosts();
+    compare_entries();
+    test_no_reason();
     compare_records(0);
     compare_records(1);
     compare_psws(0);

@@ -37,7 +37,8 @@ GUESTS = [
      ["instruction  operand 00000208"]),
     ("interceptions.bit1 = 1\ngr6 = X'3000'", "L 2,X'4'(,6)\n",
      "host fault 11 hex, page translation, at host address 00003004, "
-     "by L 2,X'4'(,6) at 00000200", ["host fault 11 hex, page translation, at host address 00003004  operand 00003004"]),
+     "by L 2,X'4'(,6) at 00000200; host page entry at 0000104c: invalid",
+     ["host fault 11 hex, page translation, at host address 00003004  operand 00003004"]),
     ("interceptions.bit1 = 1\npsw.problem = 1", "SPT X'208'",
      "intercepted, code 8: program exception 02 hex, privileged operation, "
      "by SPT X'208' at 00000200", ["code 8: program exception 02 hex, privileged operation  operand 00000208"]),
@@ -161,7 +162,8 @@ SYSTEM_370 = [
      "budget used: 1 unit completed", ["-1 us"]),
     (f"{NEXT}\nprefix = X'3000'\npsw.address = X'1000'", "LR 0,0\nat guest X'1000'\nLR 1,2",
      "host fault 11 hex, page translation, at host address 00003050, by LR 1,2 at 00001000, with the fall of the interval "
-     "timer's word", ["host fault 11 hex, page translation, at host address 00003050"]),
+     "timer's word; host page entry at 0000104c: invalid",
+     ["host fault 11 hex, page translation, at host address 00003050"]),
 ]
 
 

@@ -9,6 +9,7 @@
 
 #define TALLY_KINDS 6
 #define TALLY_NUMBERS 64
+#define TALLY_STAGES 5
 
 /* The records that are told apart: of any other length than 208; of 208 bytes, and not mode 01; mode 01 by the PSW's form. */
 enum { RECORD_SHORT, RECORD_LONG, RECORD_BC, RECORD_EC, RECORD_SORTS };
@@ -30,9 +31,11 @@ enum {
     RULES
 };
 
-/* How often each answer of translate was given, by the sort of record; and how often each rule of `rules` gave its answer. */
+/* How often each answer of translate was given, by the sort of record; but for refusals, by its stage and whether the entry's
+   address is other than zero; and how often each rule of `rules` gave its answer. */
 struct tally {
     unsigned long count[RECORD_SORTS][TALLY_KINDS][TALLY_NUMBERS];
+    unsigned long named[TALLY_KINDS][TALLY_NUMBERS][TALLY_STAGES][2];
     unsigned long ruled[RULES];
 };
 
@@ -131,13 +134,16 @@ static inline int rule_applies(const struct guest_case *c, int rule)
     }
 }
 
-static inline void count_answer(struct tally *t, const struct guest_case *c, uint64_t answer)
+static inline void count_answer(struct tally *t, const struct guest_case *c, struct compared r)
 {
-    uint32_t kind = drevokas_kind(answer), number = drevokas_number(answer);
+    uint32_t kind = drevokas_kind(r.answer), number = drevokas_number(r.answer), stage = drevokas_stage(r.answer);
     int rule;
 
-    if (kind < TALLY_KINDS && number < TALLY_NUMBERS)
+    if (kind < TALLY_KINDS && number < TALLY_NUMBERS && stage < TALLY_STAGES) {
         t->count[sort_of(c)][kind][number]++;
+        if (kind != DREVOKAS_REFUSED)
+            t->named[kind][number][stage][drevokas_entry(r.where) != 0]++;
+    }
     for (rule = 0; rule < RULES; rule++)
         if (kind == rules[rule].kind && number == rules[rule].number && rule_applies(c, rule))
             t->ruled[rule]++;
@@ -188,7 +194,7 @@ static inline int same_translate(struct guest_case *c, struct tally *t)
         print_answer("plain", plain);
         return 0;
     }
-    count_answer(t, c, ours.answer);
+    count_answer(t, c, ours);
     return 1;
 }
 

@@ -103,9 +103,33 @@ static inline void discard(struct machine *m)
     release(&m->keys);
 }
 
+/* The table that a failure names, and the address of its entry; UNREAD where that was not read. */
+struct table {
+    uint32_t stage, entry;
+};
+
+#define UNREAD 0
+#define NO_TABLE ((struct table){0, 0})
+#define GUEST_SEGMENT(at) ((struct table){1, at})
+#define GUEST_PAGE(at) ((struct table){2, at})
+#define HOST_SEGMENT(at) ((struct table){3, at})
+#define HOST_PAGE(at) ((struct table){4, at})
+
 static inline uint64_t answer_of(uint32_t kind, uint32_t number)
 {
     return (uint64_t)kind << 56 | (uint64_t)number << 48;
+}
+
+/* An answer that names a table, and *where beside it. */
+
+static inline uint64_t answer_in(uint32_t kind, uint32_t number, struct table t)
+{
+    return answer_of(kind, number) | (uint64_t)t.stage << 40;
+}
+
+static inline uint64_t where_in(uint32_t address, struct table t)
+{
+    return (uint64_t)t.entry << 32 | address;
 }
 
 static inline void expect_check_at(const char *file, int line, struct machine *m, uint64_t expected)
@@ -152,6 +176,12 @@ static inline void expect_translate_at(const char *file, int line, struct machin
         expect_translate_once(file, line, m, DREVOKAS_INSTRUCTION_FETCH, address, expected, expected_where);
 }
 
+static inline void expect_failure_at(const char *file, int line, struct machine *m, uint32_t access, uint32_t address,
+                                     uint32_t kind, uint32_t code, uint32_t host, struct table t)
+{
+    expect_translate_at(file, line, m, access, address, answer_in(kind, code, t), where_in(host, t));
+}
+
 #define CHECKS_GOOD(m) expect_check_at(__FILE__, __LINE__, m, answer_of(DREVOKAS_GOOD, 0))
 #define CHECKS_INVALID(m) \
     expect_check_at(__FILE__, __LINE__, m, answer_of(DREVOKAS_INTERCEPTED, DREVOKAS_CODE_VALIDITY))
@@ -159,10 +189,13 @@ static inline void expect_translate_at(const char *file, int line, struct machin
 
 #define REACHES(m, access, address, host) \
     expect_translate_at(__FILE__, __LINE__, m, access, address, answer_of(DREVOKAS_GOOD, 0), host)
-#define EXCEPTION(m, access, address, code) \
-    expect_translate_at(__FILE__, __LINE__, m, access, address, answer_of(DREVOKAS_PROGRAM_EXCEPTION, code), 0)
-#define FAULTS(m, access, address, code, host) \
-    expect_translate_at(__FILE__, __LINE__, m, access, address, answer_of(DREVOKAS_HOST_FAULT, code), host)
+#define EXCEPTION_IN(m, access, address, code, table) \
+    expect_failure_at(__FILE__, __LINE__, m, access, address, DREVOKAS_PROGRAM_EXCEPTION, code, 0, table)
+#define FAULTS_IN(m, access, address, code, host, table) \
+    expect_failure_at(__FILE__, __LINE__, m, access, address, DREVOKAS_HOST_FAULT, code, host, table)
+/* Failures that no table is to blame for. */
+#define EXCEPTION(m, access, address, code) EXCEPTION_IN(m, access, address, code, NO_TABLE)
+#define FAULTS(m, access, address, code, host) FAULTS_IN(m, access, address, code, host, NO_TABLE)
 #define INVALID(m, access, address) \
     expect_translate_at(__FILE__, __LINE__, m, access, address, \
                         answer_of(DREVOKAS_INTERCEPTED, DREVOKAS_CODE_VALIDITY), 0)

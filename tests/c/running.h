@@ -28,6 +28,12 @@ static inline uint64_t ended(uint32_t kind, uint32_t number, uint32_t units)
     return answer_of(kind, number) | units;
 }
 
+/* A host fault that names a table. */
+static inline uint64_t faulted(uint32_t code, uint32_t units, struct table t)
+{
+    return answer_in(DREVOKAS_HOST_FAULT, code, t) | units;
+}
+
 static inline void remember_all(struct machine *m)
 {
     remember(&m->record);

@@ -1,6 +1,7 @@
 /* System/370 guests in records of 208 bytes, called from C. What a run is to leave is written into the copies of record,
    storage and keys, and then all bytes are compared: what no test names stays as it was. */
 #include "running.h"
+#include "ways.h"
 
 #define FETCH DREVOKAS_OPERAND_FETCH
 #define STORE DREVOKAS_STORE
@@ -177,8 +178,8 @@ static void expect_end_at(const char *file, int line, struct machine *m, uint32_
     expect_end_at(__FILE__, __LINE__, m, time, budget, ended(DREVOKAS_BUDGET_USED, 0, budget), 0)
 #define INTERCEPTED(m, time, code, units) \
     expect_end_at(__FILE__, __LINE__, m, time, (units) + 1, ended(DREVOKAS_INTERCEPTED, code, units), 0)
-#define HOST_FAULT(m, time, code, host, units) \
-    expect_end_at(__FILE__, __LINE__, m, time, (units) + 1, ended(DREVOKAS_HOST_FAULT, code, units), host)
+#define HOST_FAULT(m, time, code, host, units, table) \
+    expect_end_at(__FILE__, __LINE__, m, time, (units) + 1, faulted(code, units, table), where_in(host, table))
 
 /* ---- texts ---- */
 
@@ -406,7 +407,7 @@ static void test_translate(void)
     REACHES(&m, FETCH, 0x50, 0x5050);
     REACHES(&m, STORE, 0x1234, 0x4234);
     REACHES(&m, FETCH, 0x10fff, 0x3fff);
-    FAULTS(&m, FETCH, 0x2000, 0x11, 0xf2000);
+    FAULTS_IN(&m, FETCH, 0x2000, 0x11, 0xf2000, HOST_PAGE(ENTRY_AT(2)));
     EXCEPTION(&m, FETCH, 0x20000, 5);
     /* 24 bits, whatever bit 32 is */
     put32(m.record.at + AT_PSW + 4, 0xffffffffu);
@@ -993,24 +994,24 @@ static struct machine falling(const uint8_t *text, size_t len)
 }
 
 /* The host fault leaves nothing but the cleared results. */
-static void try_word_fault(const uint8_t *text, size_t len, size_t at, uint32_t entry, uint32_t code)
+static void try_word_fault(const uint8_t *text, size_t len, uint32_t at, uint32_t entry, uint32_t code, struct table named)
 {
     struct machine m = falling(text, len);
 
     put32(m.storage.at + at, entry);
     start(&m);
-    HOST_FAULT(&m, 1, code, LOW_VIRTUAL + 80, 0);
+    HOST_FAULT(&m, 1, code, LOW_VIRTUAL + 80, 0, named);
     ALL_AS_SAID(&m);
     discard(&m);
 }
 
 static void try_word_faults(const uint8_t *text, size_t len)
 {
-    try_word_fault(text, len, LOW_ENTRY_AT, 0x5000 | PAGE_PROTECTED, 4);
-    try_word_fault(text, len, LOW_ENTRY_AT, FRAMES * 4096, 5);
-    try_word_fault(text, len, LOW_SEGMENT_AT, SEGMENT_INVALID, 0x10);
-    try_word_fault(text, len, LOW_ENTRY_AT, PAGE_INVALID, 0x11);
-    try_word_fault(text, len, LOW_ENTRY_AT, 0x5000 | BIT(20), 0x12);
+    try_word_fault(text, len, LOW_ENTRY_AT, 0x5000 | PAGE_PROTECTED, 4, NO_TABLE);
+    try_word_fault(text, len, LOW_ENTRY_AT, FRAMES * 4096, 5, HOST_PAGE(LOW_ENTRY_AT));
+    try_word_fault(text, len, LOW_SEGMENT_AT, SEGMENT_INVALID, 0x10, HOST_SEGMENT(LOW_SEGMENT_AT));
+    try_word_fault(text, len, LOW_ENTRY_AT, PAGE_INVALID, 0x11, HOST_PAGE(LOW_ENTRY_AT));
+    try_word_fault(text, len, LOW_ENTRY_AT, 0x5000 | BIT(20), 0x12, HOST_PAGE(LOW_ENTRY_AT));
 }
 
 static void test_word_faults(void)
@@ -1027,13 +1028,13 @@ static void test_area_before_word(void)
 
     put32(m.storage.at + LOW_ENTRY_AT, PAGE_INVALID);
     start(&m);
-    HOST_FAULT(&m, 1, 0x11, LOW_VIRTUAL + 32, 0);
+    HOST_FAULT(&m, 1, 0x11, LOW_VIRTUAL + 32, 0, HOST_PAGE(LOW_ENTRY_AT));
     ALL_AS_SAID(&m);
     discard(&m);
     m = falling(none, sizeof none);
     put32(m.storage.at + LOW_ENTRY_AT, PAGE_INVALID);
     start(&m);
-    HOST_FAULT(&m, 1, 0x11, LOW_VIRTUAL + 40, 0);
+    HOST_FAULT(&m, 1, 0x11, LOW_VIRTUAL + 40, 0, HOST_PAGE(LOW_ENTRY_AT));
     ALL_AS_SAID(&m);
     discard(&m);
 }
@@ -1090,8 +1091,8 @@ static void try_mended(uint32_t before)
 
     EXPECT(run(&whole, 1000, 1, 20, &where) == ended(DREVOKAS_BUDGET_USED, 0, 20));
     put32(parts.storage.at + LOW_ENTRY_AT, PAGE_INVALID);
-    EXPECT(run(&parts, 1000, 1, 20, &where) == ended(DREVOKAS_HOST_FAULT, 0x11, before));
-    EXPECT(where == LOW_VIRTUAL + 80);
+    EXPECT(run(&parts, 1000, 1, 20, &where) == faulted(0x11, before, HOST_PAGE(LOW_ENTRY_AT)));
+    EXPECT(where == where_in(LOW_VIRTUAL + 80, HOST_PAGE(LOW_ENTRY_AT)));
     EXPECT(get32(parts.record.at + AT_RESIDUE) == INTERVAL_PERIOD - 3 && parts.record.at[AT_INTERVAL] == 0);
     put32(parts.storage.at + LOW_ENTRY_AT, 0x5000);
     EXPECT(run(&parts, 1000 + before, 1, 20 - before, &where) == ended(DREVOKAS_BUDGET_USED, 0, 20 - before));
@@ -1129,6 +1130,70 @@ static void test_cut_at_every_unit(void)
         discard(&whole);
         discard(&parts);
     }
+}
+
+/* ---- which table was bad ---- */
+
+/* A unit in which the word falls, and the first byte that it accesses at SPOT. That is the prefix page, so that real SPOT is
+   absolute 0, where the text is. */
+static const struct {
+    uint8_t text[4];
+    uint32_t address, first;
+    int store;
+} at_spot[] = {
+    /* the word: AR 1,2; BC 15,0(3); ST 1,X'800'(3) */
+    {{0x1a, 0x12}, SPOT | 0x200, 80, 1},
+    {{0x47, 0xf0, 0x30, 0x00}, SPOT | 0x200, 80, 1},
+    {{0x50, 0x10, 0x38, 0x00}, SPOT | 0x200, 80, 1},
+    /* operands: ST 1,80; ST 1,X'123'; L 1,X'123' */
+    {{0x50, 0x10, 0x00, 0x50}, SPOT | 0x200, 80, 1},
+    {{0x50, 0x10, 0x01, 0x23}, SPOT | 0x200, 0x123, 1},
+    {{0x58, 0x10, 0x01, 0x23}, SPOT | 0x200, 0x123, 0},
+    /* interruption areas: SVC 7; operation exception */
+    {{0x0a, 0x07}, SPOT | 0x200, 32, 1},
+    {{0x00, 0x00}, SPOT | 0x200, 40, 1},
+    /* text: LR 1,2 at SPOT */
+    {{0}, 0x200, 0x200, 0},
+};
+
+#define AT_SPOT (sizeof at_spot / sizeof *at_spot)
+
+/* A page that the host protects can be fetched from: then it is the word's store that faults. */
+static void try_way(const struct way *w, size_t i, uint32_t left)
+{
+    struct machine m = spot_guest(w);
+    uint32_t first = w->code == 4 && !at_spot[i].store ? 80 : at_spot[i].first;
+
+    lengthen(&m);
+    m.record.at[AT_MODE] = MODE_370;
+    put32(m.record.at + AT_PREFIX, SPOT);
+    put32(m.record.at + AT_PSW, left);
+    put32(m.record.at + AT_PSW + 4, at_spot[i].address);
+    put32(m.record.at + AT_RESIDUE, INTERVAL_PERIOD - 1);
+    memset(m.record.at + AT_RESULTS, 0xee, RESULT_BYTES);
+    put_general(&m, 3, SPOT);
+    memcpy(m.storage.at + OTHER_FRAME + 0x200, at_spot[i].text, 4);
+    put16(m.storage.at + SPOT_FRAME + 0x200, 0x1812);
+    start(&m);
+    HOST_FAULT(&m, 1, w->code, SPOT_VIRTUAL + first, 0, w->named);
+    ALL_AS_SAID(&m);
+    if (w->code == 4)
+        REACHES(&m, FETCH, 0x123, SPOT_FRAME | 0x123);
+    else
+        FAULTS_IN(&m, FETCH, 0x123, w->code, SPOT_VIRTUAL | 0x123, w->named);
+    FAULTS_IN(&m, STORE, 0xff000123u, w->code, SPOT_VIRTUAL | 0x123, w->named);
+    discard(&m);
+}
+
+static void test_ways(void)
+{
+    size_t w, i;
+
+    for (w = 0; w < WAYS; w++)
+        for (i = 0; i < AT_SPOT; i++) {
+            try_way(&ways[w], i, 0);
+            try_way(&ways[w], i, PSW_BASE);
+        }
 }
 
 /* ---- mode 10 in 208 bytes ---- */
@@ -1297,6 +1362,7 @@ static void (*const tests[])(void) = {
     test_exit_has_no_fall,
     test_mended,
     test_cut_at_every_unit,
+    test_ways,
     test_both_records,
     test_opcodes_by_mode,
     test_lent,

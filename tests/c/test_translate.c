@@ -1,5 +1,5 @@
 /* Tests of drevokas_check and drevokas_translate against document 01. Codes are written as its numbers. */
-#include "machine.h"
+#include "ways.h"
 
 #define FETCH DREVOKAS_OPERAND_FETCH
 #define STORE DREVOKAS_STORE
@@ -23,7 +23,7 @@ static void set_half_field(struct machine *m, size_t at, uint32_t value)
 
 static void test_header(void)
 {
-    uint64_t answer = 0x02110000fedcba98u;
+    uint64_t answer = 0x02110000fedcba98u, where = 0xfedcba9876543210u;
 
     EXPECT(drevokas_kind(answer) == 2);
     EXPECT(drevokas_number(answer) == 0x11);
@@ -31,6 +31,12 @@ static void test_header(void)
     EXPECT(drevokas_kind(0xff00000000000000u) == 255);
     EXPECT(drevokas_number(0x00ff000000000000u) == 255);
     EXPECT(drevokas_units(0xffffffff00000000u) == 0);
+    EXPECT(drevokas_stage(answer) == 0 && drevokas_stage(0x0000ff0000000000u) == 255);
+    EXPECT(drevokas_stage(0xffff00ffffffffffu) == 0 && drevokas_stage(0x0212040000000000u) == 4);
+    EXPECT(drevokas_entry(where) == 0xfedcba98u && drevokas_address(where) == 0x76543210u);
+    EXPECT(drevokas_entry(0xffffffffu) == 0 && drevokas_address(0xffffffff00000000u) == 0);
+    EXPECT(DREVOKAS_STAGE_NONE == 0 && DREVOKAS_STAGE_GUEST_SEGMENT == 1 && DREVOKAS_STAGE_GUEST_PAGE == 2);
+    EXPECT(DREVOKAS_STAGE_HOST_SEGMENT == 3 && DREVOKAS_STAGE_HOST_PAGE == 4);
     EXPECT(DREVOKAS_REFUSED == 0 && DREVOKAS_INTERCEPTED == 1 && DREVOKAS_HOST_FAULT == 2);
     EXPECT(DREVOKAS_BUDGET_USED == 3 && DREVOKAS_PROGRAM_EXCEPTION == 4 && DREVOKAS_GOOD == 5);
     EXPECT(DREVOKAS_REFUSAL_LENGTH == 1 && DREVOKAS_REFUSAL_VERSION == 2 && DREVOKAS_REFUSAL_STORAGE == 3);
@@ -75,7 +81,7 @@ static void test_paper_fetches(void)
     CHECKS_GOOD(&m);
     REACHES(&m, FETCH, 0, 12288);
     REACHES(&m, FETCH, 4095, 16383);
-    FAULTS(&m, FETCH, 4096, 0x11, 4096);
+    FAULTS_IN(&m, FETCH, 4096, 0x11, 4096, HOST_PAGE(8196));
     EXCEPTION(&m, FETCH, 65536, 5);
     discard(&m);
 }
@@ -99,13 +105,13 @@ static void test_paper_guest_length(void)
 
     set_field(&m, AT_PSW, PSW_DAT);
     set_field(&m, AT_CR0, CR0_FORMAT);
-    EXCEPTION(&m, FETCH, 0x01000000, 0x10);
+    EXCEPTION_IN(&m, FETCH, 0x01000000, 0x10, GUEST_SEGMENT(UNREAD));
     /* the segment entry, a zero word, has length 0 */
-    EXCEPTION(&m, FETCH, 0x00ffffff, 0x11);
+    EXCEPTION_IN(&m, FETCH, 0x00ffffff, 0x11, GUEST_PAGE(UNREAD));
     /* with a page table at real 64 and all its entries zero, real page 0 */
     set_word(&m, 12288 + 15 * 4, 0x4f);
     REACHES(&m, FETCH, 0x00ffffff, 0x3fff);
-    EXCEPTION(&m, FETCH, 0x01000000, 0x10);
+    EXCEPTION_IN(&m, FETCH, 0x01000000, 0x10, GUEST_SEGMENT(UNREAD));
     discard(&m);
 }
 
@@ -333,7 +339,7 @@ static void try_extent(uint32_t origin, uint32_t extent, int good)
     } else {
         CHECKS_GOOD(&m);
         m.designation = 0x8000;
-        FAULTS(&m, FETCH, 0, origin < 256 ? 5 : 0x10, (uint64_t)origin << 16);
+        FAULTS_IN(&m, FETCH, 0, origin < 256 ? 5 : 0x10, origin << 16, HOST_SEGMENT(UNREAD));
     }
     discard(&m);
 }
@@ -410,7 +416,7 @@ static void test_entry_prefix(void)
 #define HOST_VIRTUAL(a) (0x110000u + (a))
 
 /* Where the host entry of a guest page stands. */
-static size_t host_entry_at(uint32_t page)
+static uint32_t host_entry_at(uint32_t page)
 {
     return 0x2000 + (16 + page) * 4;
 }
@@ -473,7 +479,7 @@ static void test_guest_pages(void)
         REACHES(&m, STORE, page << 12 | 0xabc, (page + 4) << 12 | 0xabc);
     }
     for (page = BACKED_PAGES; page < GUEST_PAGES; page++)
-        FAULTS(&m, FETCH, page << 12 | 0xfff, 0x11, HOST_VIRTUAL(page << 12 | 0xfff));
+        FAULTS_IN(&m, FETCH, page << 12 | 0xfff, 0x11, HOST_VIRTUAL(page << 12 | 0xfff), HOST_PAGE(host_entry_at(page)));
     EXCEPTION(&m, FETCH, 0x20000, 5);
     EXCEPTION(&m, STORE, 0x7fffffff, 5);
     discard(&m);
@@ -504,9 +510,9 @@ static void test_dat(void)
     REACHES(&m, FETCH, 0x1fff, 0xafff);
     REACHES(&m, FETCH, 0x10001, 0xb001);
     REACHES(&m, STORE, 0x100000, 0xa000);
-    EXCEPTION(&m, FETCH, 0x40000000, 0x10);
+    EXCEPTION_IN(&m, FETCH, 0x40000000, 0x10, GUEST_SEGMENT(UNREAD));
     set_field(&m, AT_CR1, SEGMENT_TABLE | 63);
-    EXCEPTION(&m, FETCH, 0x40000000, 0x10);
+    EXCEPTION_IN(&m, FETCH, 0x40000000, 0x10, GUEST_SEGMENT(UNREAD));
     set_field(&m, AT_CR1, SEGMENT_TABLE | 64);
     REACHES(&m, FETCH, 0x40000fed, 0xafed);
     discard(&m);
@@ -540,7 +546,7 @@ static void test_wrap(void)
     REACHES(&m, FETCH, 0x01000000, 0x4000);
     REACHES(&m, STORE, 0x81000123u, 0x4123);
     REACHES(&m, FETCH, 0xff001234u, 0x5234);
-    FAULTS(&m, FETCH, 0xffffffffu, 0x11, HOST_VIRTUAL(0xffffff));
+    FAULTS_IN(&m, FETCH, 0xffffffffu, 0x11, HOST_VIRTUAL(0xffffff), HOST_PAGE(0x2800 + 15 * 4));
     discard(&m);
 }
 
@@ -555,7 +561,7 @@ static void test_wrap_with_dat(void)
     set_guest_word(&m, SEGMENT_TABLE, PAGE_TABLE | 15);
     set_guest_word(&m, PAGE_TABLE, 0x01000000);
     REACHES(&m, FETCH, 0x80000456u, 0xc456);
-    EXCEPTION(&m, FETCH, 0x01000456, 0x10);
+    EXCEPTION_IN(&m, FETCH, 0x01000456, 0x10, GUEST_SEGMENT(UNREAD));
     m.record.at[AT_ADDRESSING_MODE] = 0;
     REACHES(&m, FETCH, 0x01000456, 0xc456);
     REACHES(&m, STORE, 0xff000456u, 0xc456);
@@ -580,7 +586,7 @@ static void test_low_address_protection(void)
     /* before the host's tests */
     set_host_entry(&m, 0, PAGE_INVALID);
     EXCEPTION(&m, STORE, 0, 4);
-    FAULTS(&m, STORE, 512, 0x11, HOST_VIRTUAL(512));
+    FAULTS_IN(&m, STORE, 512, 0x11, HOST_VIRTUAL(512), HOST_PAGE(host_entry_at(0)));
     discard(&m);
 }
 
@@ -630,6 +636,13 @@ static void test_control_format(void)
 
 /* ---- guest tables ---- */
 
+/* Segment translation and specification come from the segment entry itself; what else it gives, from the page entry that is
+   not read. */
+static struct table segment_or_page(uint32_t code)
+{
+    return code == 0x10 || code == 0x12 ? GUEST_SEGMENT(SEGMENT_TABLE) : GUEST_PAGE(UNREAD);
+}
+
 /* What a segment entry gives for logical address 0 and for 10000 hex, whose page index is 16; 0 where it translates. */
 static void try_segment(uint32_t entry, uint32_t code, uint32_t far_code)
 {
@@ -637,11 +650,11 @@ static void try_segment(uint32_t entry, uint32_t code, uint32_t far_code)
 
     set_guest_word(&m, SEGMENT_TABLE, entry);
     if (code)
-        EXCEPTION(&m, FETCH, 0, code);
+        EXCEPTION_IN(&m, FETCH, 0, code, segment_or_page(code));
     else
         REACHES(&m, FETCH, 0, 0x9000);
     if (far_code)
-        EXCEPTION(&m, STORE, 0x10000, far_code);
+        EXCEPTION_IN(&m, STORE, 0x10000, far_code, segment_or_page(far_code));
     else
         REACHES(&m, STORE, 0x10000, 0xb000);
     discard(&m);
@@ -663,14 +676,16 @@ static void test_guest_segment_entry(void)
     try_segment(0xffffffffu, 0x10, 0x10);
 }
 
+/* Addressing is that of the byte. */
 static void try_page(uint32_t entry, uint32_t code)
 {
     struct machine m = dat_guest();
+    struct table named = code == 5 ? NO_TABLE : GUEST_PAGE(PAGE_TABLE);
 
     set_guest_word(&m, PAGE_TABLE, entry);
     if (code) {
-        EXCEPTION(&m, FETCH, 0x321, code);
-        EXCEPTION(&m, STORE, 0x321, code);
+        EXCEPTION_IN(&m, FETCH, 0x321, code, named);
+        EXCEPTION_IN(&m, STORE, 0x321, code, named);
     } else {
         REACHES(&m, FETCH, 0x321, 0x9321);
         REACHES(&m, STORE, 0x321, 0x9321);
@@ -702,17 +717,17 @@ static void test_guest_tables_past_extent(void)
     struct machine m = dat_guest();
 
     set_field(&m, AT_CR1, 0x20000);
-    EXCEPTION(&m, FETCH, 0, 5);
+    EXCEPTION_IN(&m, FETCH, 0, 5, GUEST_SEGMENT(UNREAD));
     set_field(&m, AT_CR1, 0x1f000 | 127);
-    FAULTS(&m, FETCH, 0x3ff00000, 0x11, HOST_VIRTUAL(0x1fffc));
-    EXCEPTION(&m, FETCH, 0x40000000, 5);
+    FAULTS_IN(&m, FETCH, 0x3ff00000, 0x11, HOST_VIRTUAL(0x1fffc), HOST_PAGE(host_entry_at(31)));
+    EXCEPTION_IN(&m, FETCH, 0x40000000, 5, GUEST_SEGMENT(UNREAD));
     set_field(&m, AT_CR1, 0x7ffff000 | 127);
-    EXCEPTION(&m, FETCH, 0, 5);
-    EXCEPTION(&m, FETCH, 0x7fffffff, 5);
+    EXCEPTION_IN(&m, FETCH, 0, 5, GUEST_SEGMENT(UNREAD));
+    EXCEPTION_IN(&m, FETCH, 0x7fffffff, 5, GUEST_SEGMENT(UNREAD));
     set_field(&m, AT_CR1, SEGMENT_TABLE);
     set_guest_word(&m, SEGMENT_TABLE, 0x1ffc0 | 15);
-    FAULTS(&m, STORE, 0xf000, 0x11, HOST_VIRTUAL(0x1fffc));
-    EXCEPTION(&m, STORE, 0x10000, 5);
+    FAULTS_IN(&m, STORE, 0xf000, 0x11, HOST_VIRTUAL(0x1fffc), HOST_PAGE(host_entry_at(31)));
+    EXCEPTION_IN(&m, STORE, 0x10000, 5, GUEST_PAGE(UNREAD));
     discard(&m);
 }
 
@@ -726,12 +741,12 @@ static void test_guest_tables_do_not_wrap(void)
     set_field(&m, AT_PSW, PSW_DAT);
     set_field(&m, AT_CR0, CR0_FORMAT);
     set_field(&m, AT_CR1, 0x7ffff000 | 127);
-    EXCEPTION(&m, FETCH, 0x40000000, 5);
-    FAULTS(&m, FETCH, 0x3ff00000, 0x10, 0x7ffffffc);
+    EXCEPTION_IN(&m, FETCH, 0x40000000, 5, GUEST_SEGMENT(UNREAD));
+    FAULTS_IN(&m, FETCH, 0x3ff00000, 0x10, 0x7ffffffc, HOST_SEGMENT(UNREAD));
     set_field(&m, AT_CR1, 0);
     set_word(&m, 12288, 0x7fffffc0 | 15);
-    EXCEPTION(&m, FETCH, 0x10000, 5);
-    FAULTS(&m, FETCH, 0xf000, 0x10, 0x7ffffffc);
+    EXCEPTION_IN(&m, FETCH, 0x10000, 5, GUEST_PAGE(UNREAD));
+    FAULTS_IN(&m, FETCH, 0xf000, 0x10, 0x7ffffffc, HOST_SEGMENT(UNREAD));
     discard(&m);
 }
 
@@ -742,11 +757,11 @@ static void test_guest_length_of_segment_table(void)
 
     for (length = 0; length < 127; length++) {
         set_field(&m, AT_CR1, 0x20000 | length);
-        EXCEPTION(&m, FETCH, (length << 24) + 0xffffff, 5);
-        EXCEPTION(&m, FETCH, (length + 1) << 24, 0x10);
+        EXCEPTION_IN(&m, FETCH, (length << 24) + 0xffffff, 5, GUEST_SEGMENT(UNREAD));
+        EXCEPTION_IN(&m, FETCH, (length + 1) << 24, 0x10, GUEST_SEGMENT(UNREAD));
     }
     set_field(&m, AT_CR1, 0x20000 | 127);
-    EXCEPTION(&m, FETCH, 0x7fffffff, 5);
+    EXCEPTION_IN(&m, FETCH, 0x7fffffff, 5, GUEST_SEGMENT(UNREAD));
     discard(&m);
 }
 
@@ -757,11 +772,11 @@ static void test_guest_length_of_page_table(void)
 
     for (length = 0; length < 15; length++) {
         set_guest_word(&m, SEGMENT_TABLE, 0x20000 | length);
-        EXCEPTION(&m, FETCH, (length << 16) + 0xffff, 5);
-        EXCEPTION(&m, FETCH, (length + 1) << 16, 0x11);
+        EXCEPTION_IN(&m, FETCH, (length << 16) + 0xffff, 5, GUEST_PAGE(UNREAD));
+        EXCEPTION_IN(&m, FETCH, (length + 1) << 16, 0x11, GUEST_PAGE(UNREAD));
     }
     set_guest_word(&m, SEGMENT_TABLE, 0x20000 | 15);
-    EXCEPTION(&m, FETCH, 0xfffff, 5);
+    EXCEPTION_IN(&m, FETCH, 0xfffff, 5, GUEST_PAGE(UNREAD));
     discard(&m);
 }
 
@@ -775,10 +790,11 @@ static void try_host_page(uint32_t entry, uint32_t code)
 
     for (i = 0; i < sizeof reached / sizeof *reached; i++) {
         struct machine m = dat_guest();
+        struct table named = HOST_PAGE(host_entry_at(reached[i] >> 12));
 
         set_host_entry(&m, reached[i] >> 12, entry);
-        FAULTS(&m, FETCH, 0x123, code, HOST_VIRTUAL(reached[i]));
-        FAULTS(&m, STORE, 0x123, code, HOST_VIRTUAL(reached[i]));
+        FAULTS_IN(&m, FETCH, 0x123, code, HOST_VIRTUAL(reached[i]), named);
+        FAULTS_IN(&m, STORE, 0x123, code, HOST_VIRTUAL(reached[i]), named);
         discard(&m);
     }
 }
@@ -805,10 +821,10 @@ static void test_host_page_of_later_entries(void)
 
     set_host_entry(&m, 4, PAGE_INVALID);
     REACHES(&m, FETCH, 0, 0x9000);
-    FAULTS(&m, FETCH, 0x10fff, 0x11, HOST_VIRTUAL(PAGE_TABLE + 16 * 4));
+    FAULTS_IN(&m, FETCH, 0x10fff, 0x11, HOST_VIRTUAL(PAGE_TABLE + 16 * 4), HOST_PAGE(host_entry_at(4)));
     set_field(&m, AT_CR1, SEGMENT_TABLE | 127);
     set_host_entry(&m, 2, BIT(23));
-    FAULTS(&m, STORE, 0x40000000, 0x12, HOST_VIRTUAL(SEGMENT_TABLE + 1024 * 4));
+    FAULTS_IN(&m, STORE, 0x40000000, 0x12, HOST_VIRTUAL(SEGMENT_TABLE + 1024 * 4), HOST_PAGE(host_entry_at(2)));
     discard(&m);
 }
 
@@ -816,11 +832,12 @@ static void test_host_page_of_later_entries(void)
 static void try_host_segment(uint32_t entry, uint32_t code)
 {
     struct machine m = guest();
+    struct table named = code == 0x10 || code == 0x12 ? HOST_SEGMENT(HOST_SEGMENT_AT) : HOST_PAGE(UNREAD);
 
     set_word(&m, HOST_SEGMENT_AT, entry);
     if (code) {
-        FAULTS(&m, FETCH, 0x5123, code, HOST_VIRTUAL(0x5123));
-        FAULTS(&m, STORE, 0x5123, code, HOST_VIRTUAL(0x5123));
+        FAULTS_IN(&m, FETCH, 0x5123, code, HOST_VIRTUAL(0x5123), named);
+        FAULTS_IN(&m, STORE, 0x5123, code, HOST_VIRTUAL(0x5123), named);
     } else {
         REACHES(&m, FETCH, 0x5123, 0x9123);
     }
@@ -853,11 +870,11 @@ static void test_host_tables_past_storage(void)
     m.designation = 0xf000;
     REACHES(&m, FETCH, 0x7, 0x6007);
     REACHES(&m, FETCH, 0xf008, 0xf008);
-    FAULTS(&m, FETCH, 0x10009, 5, HOST_VIRTUAL(0x10009));
+    FAULTS_IN(&m, FETCH, 0x10009, 5, HOST_VIRTUAL(0x10009), HOST_PAGE(UNREAD));
     m.designation = 0x10000;
-    FAULTS(&m, FETCH, 0x7, 5, HOST_VIRTUAL(0x7));
+    FAULTS_IN(&m, FETCH, 0x7, 5, HOST_VIRTUAL(0x7), HOST_SEGMENT(UNREAD));
     m.designation = 0x7ffff000;
-    FAULTS(&m, STORE, 0x7, 5, HOST_VIRTUAL(0x7));
+    FAULTS_IN(&m, STORE, 0x7, 5, HOST_VIRTUAL(0x7), HOST_SEGMENT(UNREAD));
     discard(&m);
 }
 
@@ -875,14 +892,14 @@ static void test_last_host_segment(void)
     REACHES(&m, STORE, 0xffff, 0x5fff);
     EXCEPTION(&m, FETCH, 0x10000, 5);
     m.designation = 0x1000 | 126;
-    FAULTS(&m, FETCH, 0x10, 0x10, 0x7fff0010);
+    FAULTS_IN(&m, FETCH, 0x10, 0x10, 0x7fff0010, HOST_SEGMENT(UNREAD));
     /* a table that would wrap at 2^31 */
     set_word(&m, 0xffc, 0x300f);
     m.designation = 0x7ffff000 | 127;
-    FAULTS(&m, FETCH, 0x10, 5, 0x7fff0010);
+    FAULTS_IN(&m, FETCH, 0x10, 5, 0x7fff0010, HOST_SEGMENT(UNREAD));
     /* length before storage */
     m.designation = 0x7ffff000 | 126;
-    FAULTS(&m, FETCH, 0x10, 0x10, 0x7fff0010);
+    FAULTS_IN(&m, FETCH, 0x10, 0x10, 0x7fff0010, HOST_SEGMENT(UNREAD));
     discard(&m);
 }
 
@@ -893,7 +910,7 @@ static void test_host_page_table_does_not_wrap(void)
 
     set_half_field(&m, AT_EXTENT, 2);
     set_word(&m, 0x1000, 0x7fffffc0 | 15);
-    FAULTS(&m, FETCH, 0x10000, 5, 0x10000);
+    FAULTS_IN(&m, FETCH, 0x10000, 5, 0x10000, HOST_PAGE(UNREAD));
     discard(&m);
 }
 
@@ -902,7 +919,7 @@ static void test_storage_sizes(void)
     struct machine m = one_frame();
 
     REACHES(&m, FETCH, 0xfff, 0xfff);
-    FAULTS(&m, FETCH, 0x1abc, 5, 0x1abc);
+    FAULTS_IN(&m, FETCH, 0x1abc, 5, 0x1abc, HOST_PAGE(0x44));
     discard(&m);
     /* the most frames */
     m = machine_of(4096);
@@ -914,10 +931,12 @@ static void test_storage_sizes(void)
     m.keys.at[4095] = 0x38;
     set_field(&m, AT_PSW, PSW_KEY(3));
     REACHES(&m, STORE, 0xfff, 0xffffff);
-    FAULTS(&m, STORE, 0x1abc, 5, 0x1abc);
+    FAULTS_IN(&m, STORE, 0x1abc, 5, 0x1abc, HOST_PAGE(0xffffc4));
     set_field(&m, AT_PSW, PSW_KEY(4));
     EXCEPTION(&m, STORE, 0xfff, 4);
     REACHES(&m, FETCH, 0xf00d, 0x80000d);
+    set_word(&m, 0xfffffc, PAGE_INVALID);
+    FAULTS_IN(&m, STORE, 0xf00d, 0x11, 0xf00d, HOST_PAGE(0xfffffc));
     discard(&m);
 }
 
@@ -976,7 +995,7 @@ static void test_page_protection(void)
     REACHES(&m, STORE, 0x1000, 0xa000);
     /* a page that the host lacks is the host fault */
     set_host_entry(&m, 5, PAGE_INVALID);
-    FAULTS(&m, STORE, 0, 0x11, HOST_VIRTUAL(0x5000));
+    FAULTS_IN(&m, STORE, 0, 0x11, HOST_VIRTUAL(0x5000), HOST_PAGE(host_entry_at(5)));
     /* a page that the host protects is the guest's exception */
     set_host_entry(&m, 5, 0x9000 | PAGE_PROTECTED);
     EXCEPTION(&m, STORE, 0, 4);
@@ -1019,9 +1038,9 @@ static void test_host_fault_before_key(void)
     set_field(&m, AT_PSW, PSW_KEY(4));
     EXCEPTION(&m, FETCH, 0x5000, 4);
     set_host_entry(&m, 5, 0x9000 | PAGE_INVALID);
-    FAULTS(&m, FETCH, 0x5000, 0x11, HOST_VIRTUAL(0x5000));
+    FAULTS_IN(&m, FETCH, 0x5000, 0x11, HOST_VIRTUAL(0x5000), HOST_PAGE(host_entry_at(5)));
     set_host_entry(&m, 5, 0x10000);
-    FAULTS(&m, STORE, 0x5000, 5, HOST_VIRTUAL(0x5000));
+    FAULTS_IN(&m, STORE, 0x5000, 5, HOST_VIRTUAL(0x5000), HOST_PAGE(host_entry_at(5)));
     discard(&m);
 }
 
@@ -1039,7 +1058,7 @@ static void test_prefix(void)
     REACHES(&m, FETCH, 0x3000, 0x7000);
     /* a host fault has the address after prefixing */
     set_host_entry(&m, 2, PAGE_INVALID);
-    FAULTS(&m, FETCH, 0x5, 0x11, HOST_VIRTUAL(0x2005));
+    FAULTS_IN(&m, FETCH, 0x5, 0x11, HOST_VIRTUAL(0x2005), HOST_PAGE(host_entry_at(2)));
     REACHES(&m, FETCH, 0x2005, 0x4005);
     set_host_entry(&m, 0, 0x4000 | PAGE_PROTECTED);
     FAULTS(&m, STORE, 0x2006, 4, HOST_VIRTUAL(0x6));
@@ -1067,7 +1086,7 @@ static void test_prefix_of_segment_table(void)
     set_field(&m, AT_CR1, 0);
     REACHES(&m, FETCH, 0x1, 0x9001);
     set_host_entry(&m, 1, PAGE_INVALID);
-    FAULTS(&m, FETCH, 0x100001, 0x11, HOST_VIRTUAL(SEGMENT_TABLE + 4));
+    FAULTS_IN(&m, FETCH, 0x100001, 0x11, HOST_VIRTUAL(SEGMENT_TABLE + 4), HOST_PAGE(host_entry_at(1)));
     discard(&m);
 }
 
@@ -1086,7 +1105,7 @@ static void test_prefix_of_later_entries(void)
     REACHES(&m, FETCH, 0x1, 0x9001);
     REACHES(&m, FETCH, 0x10001, 0xa001);
     set_host_entry(&m, 0, BIT(20));
-    FAULTS(&m, FETCH, 0x10001, 0x12, HOST_VIRTUAL(0));
+    FAULTS_IN(&m, FETCH, 0x10001, 0x12, HOST_VIRTUAL(0), HOST_PAGE(host_entry_at(0)));
     discard(&m);
 }
 
@@ -1103,9 +1122,204 @@ static void test_prefix_of_page_table_and_byte(void)
     REACHES(&m, STORE, 0x2001, 0x4001);
     REACHES(&m, FETCH, 0x10001, 0xb001);
     set_host_entry(&m, 3, PAGE_INVALID);
-    FAULTS(&m, FETCH, 0x1001, 0x11, HOST_VIRTUAL(0x3001));
+    FAULTS_IN(&m, FETCH, 0x1001, 0x11, HOST_VIRTUAL(0x3001), HOST_PAGE(host_entry_at(3)));
     set_host_entry(&m, 0, 0x10000);
-    FAULTS(&m, FETCH, 0x1001, 5, HOST_VIRTUAL(0xfc4));
+    FAULTS_IN(&m, FETCH, 0x1001, 5, HOST_VIRTUAL(0xfc4), HOST_PAGE(host_entry_at(0)));
+    discard(&m);
+}
+
+/* ---- which table was bad ---- */
+
+/* The host cannot give the byte, or one of the guest's two entries for it. A page that it protects can be read. */
+static void try_way(const struct way *w)
+{
+    struct machine m = spot_guest(w);
+
+    FAULTS_IN(&m, STORE, SPOT | 0x123, w->code, SPOT_VIRTUAL | 0x123, w->named);
+    if (w->code == 4)
+        REACHES(&m, FETCH, SPOT | 0x123, SPOT_FRAME | 0x123);
+    else
+        FAULTS_IN(&m, FETCH, SPOT | 0x123, w->code, SPOT_VIRTUAL | 0x123, w->named);
+    if (w->before)
+        FAULTS_IN(&m, FETCH, SPOT - 1, w->code, SPOT_VIRTUAL - 1, w->named);
+    else
+        REACHES(&m, FETCH, SPOT - 1, BEFORE_FRAME | 0xfff);
+    REACHES(&m, STORE, 0x123, OTHER_FRAME | 0x123);
+    /* the byte, by tables in page 0 */
+    set_field(&m, AT_PSW, PSW_DAT);
+    set_field(&m, AT_CR0, CR0_FORMAT);
+    set_word(&m, OTHER_FRAME, 0x800);
+    set_word(&m, OTHER_FRAME + 0x800 + 5 * 4, SPOT);
+    FAULTS_IN(&m, STORE, 0x5678, w->code, SPOT_VIRTUAL | 0x678, w->named);
+    if (w->code != 4) {
+        set_word(&m, OTHER_FRAME + 4, SPOT | 0x40);
+        FAULTS_IN(&m, FETCH, 0x103678, w->code, SPOT_VIRTUAL + 0x40 + 3 * 4, w->named);
+        set_field(&m, AT_CR1, SPOT);
+        FAULTS_IN(&m, STORE, 0x903678, w->code, SPOT_VIRTUAL + 9 * 4, w->named);
+    }
+    discard(&m);
+}
+
+static void test_ways(void)
+{
+    size_t i;
+
+    for (i = 0; i < WAYS; i++)
+        try_way(&ways[i]);
+}
+
+/* The entry that failed, by its index: behind it and before it are others. */
+static void test_entries_by_index(void)
+{
+    struct machine m = dat_guest();
+
+    set_field(&m, AT_CR1, SEGMENT_TABLE | 127);
+    set_guest_word(&m, SEGMENT_TABLE + 7 * 4, SEGMENT_INVALID);
+    set_guest_word(&m, SEGMENT_TABLE + 2047 * 4, BIT(0));
+    set_guest_word(&m, PAGE_TABLE + 9 * 4, PAGE_INVALID);
+    set_guest_word(&m, PAGE_TABLE + 255 * 4, BIT(23));
+    EXCEPTION_IN(&m, FETCH, 0x00700000, 0x10, GUEST_SEGMENT(SEGMENT_TABLE + 7 * 4));
+    EXCEPTION_IN(&m, STORE, 0x007fffff, 0x10, GUEST_SEGMENT(SEGMENT_TABLE + 7 * 4));
+    EXCEPTION_IN(&m, FETCH, 0x7fffffff, 0x12, GUEST_SEGMENT(SEGMENT_TABLE + 2047 * 4));
+    EXCEPTION_IN(&m, FETCH, 0x00009000, 0x11, GUEST_PAGE(PAGE_TABLE + 9 * 4));
+    EXCEPTION_IN(&m, STORE, 0x00009fff, 0x11, GUEST_PAGE(PAGE_TABLE + 9 * 4));
+    EXCEPTION_IN(&m, FETCH, 0x000fffff, 0x12, GUEST_PAGE(PAGE_TABLE + 255 * 4));
+    /* what the rules do not look at in CR1 and in the segment entry is no part of it */
+    set_field(&m, AT_CR1, SEGMENT_TABLE | 0x80000f80u);
+    set_guest_word(&m, SEGMENT_TABLE, PAGE_TABLE | BIT(27) | 15);
+    EXCEPTION_IN(&m, FETCH, 0x00700000, 0x10, GUEST_SEGMENT(SEGMENT_TABLE + 7 * 4));
+    EXCEPTION_IN(&m, FETCH, 0x00009000, 0x11, GUEST_PAGE(PAGE_TABLE + 9 * 4));
+    /* nor in the host's designation and segment entry */
+    m.designation |= 0x80000f80u;
+    set_word(&m, HOST_SEGMENT_AT, 0x2002 | BIT(27));
+    set_host_entry(&m, 5, PAGE_INVALID);
+    FAULTS_IN(&m, FETCH, 0, 0x11, HOST_VIRTUAL(0x5000), HOST_PAGE(host_entry_at(5)));
+    set_word(&m, HOST_SEGMENT_AT, SEGMENT_INVALID);
+    FAULTS_IN(&m, FETCH, 0, 0x10, HOST_VIRTUAL(SEGMENT_TABLE), HOST_SEGMENT(HOST_SEGMENT_AT));
+    discard(&m);
+}
+
+/* An entry that was read and stands at zero. */
+static void test_entries_at_zero(void)
+{
+    struct machine m = one_frame();
+
+    /* the host's segment entry, and its page entry */
+    set_word(&m, 0, SEGMENT_INVALID);
+    FAULTS_IN(&m, FETCH, 0x123, 0x10, 0x123, HOST_SEGMENT(0));
+    set_word(&m, 0, BIT(0));
+    FAULTS_IN(&m, FETCH, 0x123, 0x12, 0x123, HOST_SEGMENT(0));
+    resize(&m.storage, 2 * 4096);
+    resize(&m.keys, 2);
+    m.designation = 0x1000;
+    set_word(&m, 0, PAGE_INVALID);
+    FAULTS_IN(&m, FETCH, 0x123, 0x11, 0x123, HOST_PAGE(0));
+    set_word(&m, 0, BIT(23));
+    FAULTS_IN(&m, FETCH, 0x123, 0x12, 0x123, HOST_PAGE(0));
+    set_word(&m, 0, 2 * 4096);
+    FAULTS_IN(&m, FETCH, 0x123, 5, 0x123, HOST_PAGE(0));
+    set_word(&m, 0, 0x1000 | PAGE_PROTECTED);
+    FAULTS(&m, STORE, 0x123, 4, 0x123);
+    discard(&m);
+    /* the guest's */
+    m = dat_guest();
+    set_field(&m, AT_CR1, 0);
+    set_guest_word(&m, 0, SEGMENT_INVALID);
+    EXCEPTION_IN(&m, FETCH, 0x123, 0x10, GUEST_SEGMENT(0));
+    set_guest_word(&m, 0, BIT(0));
+    EXCEPTION_IN(&m, FETCH, 0x123, 0x12, GUEST_SEGMENT(0));
+    set_field(&m, AT_CR1, SEGMENT_TABLE);
+    set_guest_word(&m, SEGMENT_TABLE, 0);
+    set_guest_word(&m, 0, PAGE_INVALID);
+    EXCEPTION_IN(&m, STORE, 0x123, 0x11, GUEST_PAGE(0));
+    set_guest_word(&m, 0, BIT(0));
+    EXCEPTION_IN(&m, STORE, 0x123, 0x12, GUEST_PAGE(0));
+    discard(&m);
+}
+
+/* The last entry that a guest can have, at real 7FFFFFFC hex, and the host's for it at the end of the storage. */
+static void test_last_entries(void)
+{
+    struct machine m = machine_of(8);
+
+    set_half_field(&m, AT_EXTENT, 32768);
+    m.designation = 0x1000 | 127;
+    set_word(&m, 0x1000, 0x3000);
+    set_word(&m, 0x1000 + 2047 * 4, 0x7c00 | 15);
+    set_word(&m, 0x3000, 0x4000);
+    set_word(&m, 0x7ffc, 0x5000);
+    set_field(&m, AT_PSW, PSW_DAT);
+    set_field(&m, AT_CR0, CR0_FORMAT);
+    set_field(&m, AT_CR1, 0x7ffff000 | 127);
+    set_word(&m, 0x5ffc, SEGMENT_INVALID);
+    EXCEPTION_IN(&m, FETCH, 0x3ff00000, 0x10, GUEST_SEGMENT(0x7ffffffc));
+    EXCEPTION_IN(&m, FETCH, 0x40000000, 5, GUEST_SEGMENT(UNREAD));
+    set_field(&m, AT_CR1, 0);
+    set_word(&m, 0x4000, 0x7fffffc0 | 15);
+    set_word(&m, 0x5ffc, BIT(20));
+    EXCEPTION_IN(&m, FETCH, 0x0000ffff, 0x12, GUEST_PAGE(0x7ffffffc));
+    EXCEPTION_IN(&m, FETCH, 0x00010000, 5, GUEST_PAGE(UNREAD));
+    set_word(&m, 0x7ffc, PAGE_INVALID);
+    FAULTS_IN(&m, FETCH, 0x0000ffff, 0x11, 0x7ffffffc, HOST_PAGE(0x7ffc));
+    set_word(&m, 0x1000 + 2047 * 4, 0x7c40 | 15);
+    FAULTS_IN(&m, FETCH, 0x0000ffff, 5, 0x7ffffffc, HOST_PAGE(UNREAD));
+    set_word(&m, 0x1000 + 2047 * 4, SEGMENT_INVALID);
+    FAULTS_IN(&m, FETCH, 0x0000ffff, 0x10, 0x7ffffffc, HOST_SEGMENT(0x2ffc));
+    discard(&m);
+}
+
+/* What a guest entry in block 0 or in the prefix block gives is named by its real address; what the host lacks there, by the
+   host's entry for the absolute one. */
+static void test_entries_before_prefixing(void)
+{
+    struct machine m = dat_guest();
+
+    set_field(&m, AT_PREFIX, 0x2000);
+    /* real 4 is absolute 2004 hex, real 2004 hex is absolute 4 */
+    set_field(&m, AT_CR1, 0);
+    set_guest_word(&m, 0x2004, SEGMENT_INVALID);
+    EXCEPTION_IN(&m, FETCH, 0x100000, 0x10, GUEST_SEGMENT(4));
+    set_field(&m, AT_CR1, 0x2000);
+    set_guest_word(&m, 4, BIT(0));
+    EXCEPTION_IN(&m, FETCH, 0x100000, 0x12, GUEST_SEGMENT(0x2004));
+    set_host_entry(&m, 0, PAGE_INVALID);
+    FAULTS_IN(&m, FETCH, 0x100000, 0x11, HOST_VIRTUAL(4), HOST_PAGE(host_entry_at(0)));
+    set_host_entry(&m, 0, 0x4000);
+    /* the same with page entries */
+    set_field(&m, AT_CR1, SEGMENT_TABLE);
+    set_guest_word(&m, SEGMENT_TABLE, 0x100);
+    set_guest_word(&m, 0x2108, PAGE_INVALID);
+    EXCEPTION_IN(&m, STORE, 0x2000, 0x11, GUEST_PAGE(0x108));
+    set_guest_word(&m, SEGMENT_TABLE, 0x2100);
+    set_guest_word(&m, 0x108, BIT(20));
+    EXCEPTION_IN(&m, STORE, 0x2000, 0x12, GUEST_PAGE(0x2108));
+    set_host_entry(&m, 0, BIT(20));
+    FAULTS_IN(&m, STORE, 0x2000, 0x12, HOST_VIRTUAL(0x108), HOST_PAGE(host_entry_at(0)));
+    discard(&m);
+}
+
+/* The guest's tables and those of the host fail at once: the host's come first wherever the guest's entry has to be read. */
+static void test_both_tables_bad(void)
+{
+    struct machine m = dat_guest();
+
+    set_guest_word(&m, SEGMENT_TABLE, SEGMENT_INVALID);
+    EXCEPTION_IN(&m, FETCH, 0, 0x10, GUEST_SEGMENT(SEGMENT_TABLE));
+    set_host_entry(&m, 1, PAGE_INVALID);
+    FAULTS_IN(&m, FETCH, 0, 0x11, HOST_VIRTUAL(SEGMENT_TABLE), HOST_PAGE(host_entry_at(1)));
+    EXCEPTION_IN(&m, FETCH, 0x01000000, 0x10, GUEST_SEGMENT(UNREAD));
+    set_field(&m, AT_CR1, 0x20000);
+    EXCEPTION_IN(&m, FETCH, 0, 5, GUEST_SEGMENT(UNREAD));
+    set_field(&m, AT_CR0, 0);
+    EXCEPTION(&m, FETCH, 0, 0x12);
+    discard(&m);
+    m = dat_guest();
+    set_guest_word(&m, SEGMENT_TABLE, PAGE_TABLE);
+    set_guest_word(&m, PAGE_TABLE, BIT(20));
+    EXCEPTION_IN(&m, FETCH, 0, 0x12, GUEST_PAGE(PAGE_TABLE));
+    set_host_entry(&m, 3, PAGE_INVALID);
+    FAULTS_IN(&m, FETCH, 0, 0x11, HOST_VIRTUAL(PAGE_TABLE), HOST_PAGE(host_entry_at(3)));
+    EXCEPTION_IN(&m, FETCH, 0x10000, 0x11, GUEST_PAGE(UNREAD));
     discard(&m);
 }
 
@@ -1147,7 +1361,7 @@ static void test_ignored(void)
     CHECKS_GOOD(&m);
     REACHES(&m, FETCH, 0x1ff, 0x91ff);
     REACHES(&m, STORE, 0x1ff, 0x91ff);
-    EXCEPTION(&m, FETCH, 0x01000000, 0x10);
+    EXCEPTION_IN(&m, FETCH, 0x01000000, 0x10, GUEST_SEGMENT(UNREAD));
     discard(&m);
     m = guest();
     ignore_all(&m);
@@ -1204,6 +1418,12 @@ static void (*const tests[])(void) = {
     test_prefix_of_segment_table,
     test_prefix_of_later_entries,
     test_prefix_of_page_table_and_byte,
+    test_ways,
+    test_entries_by_index,
+    test_entries_at_zero,
+    test_last_entries,
+    test_entries_before_prefixing,
+    test_both_tables_bad,
     test_ignored,
 };
 

@@ -3,7 +3,8 @@
 
 Every line follows from document 01, and for System/370 guests from request 1/12. A guest program that finds what it
 should ends at DIAGNOSE (code 4); one that does not goes to BAD, where an operation exception leads to a wait, so that
-the code in the line differs.
+the code in the line differs. The table that request 2/12 has a failure name is not in the line; there is a file for each
+such table and for each way to it.
 """
 import os
 import struct
@@ -734,6 +735,150 @@ for code, entry in FAULTS.items():
     timed(f"host_{code}_not_for_an_exit", "I 4 0", 0, END, **gone)
     timed(f"host_{code}_after_a_program_exception", "I 8 0", 0, "0000", control=0x40, **gone)
     timed(f"host_{code}_inactive", "B 0 100", 0, bc(15, TEXT, 2), mode=5, **gone)
+
+
+# Which table was bad: the guest's, for text, fetch and store, and on both sides of each boundary
+
+WALKS = {  # code, virtual address, and what dat() is given
+    "segment_length": (0x10, 0x01000000, {}),
+    "segment_invalid": (0x10, SPOT, {}),
+    "translation_segment_bit_0": (0x12, SPOT, {"segments": (0x1C0, 0x800001C0)}),
+    "page_table_length": (0x11, 0x10000, {}),
+    "addressing_page_table": (5, SPOT, {"segments": (0x1C0, 0x10000)}),
+    "page_invalid": (0x11, 0x1000, {}),
+    "translation_page_bit_0": (0x12, 0x1000, {"pages": (0, 0x80000000)}),
+    "translation_page_bit_20": (0x12, 0x1000, {"pages": (0, 0x800)}),
+    "translation_page_bit_23": (0x12, 0x1000, {"pages": (0, 0x100)}),
+    "addressing_by_dat": (5, 0x1000, {"pages": (0, 0x10000)}),
+}
+for name, (code, at, tables) in WALKS.items():
+    kept = code in (0x10, 0x11)  # the address is stored, and that in the PSW is not advanced
+    address = at if kept else 0
+    if name != "segment_invalid":
+        stored(name + "_text", code, 1, A31 | at + (0 if kept else 2), address,
+               **{**dat(**tables), "psw": psw(DAT, A31 | at)})
+    stored(name + "_store", code, 2, A31 | TEXT if kept else None, address, text=st(1, 0, 2), gr={2: at}, **dat(**tables))
+    if at == 0x1000 and name != "page_invalid":
+        stored("cross_load_" + name, code, text=load(1, 0, 2), gr={2: 0xFFE}, **dat(**tables))
+stored("segment_invalid_before_bit_0", 0x10, old=A31 | TEXT, address=SPOT, text=load(1, 0, 2), gr={2: SPOT},
+       **dat(segments=(0x1C0, 0x80000020)))
+for n in 0, 23:
+    stored(f"invalid_before_bit_{n}", 0x11, old=A31 | TEXT, address=0x1000, text=load(1, 0, 2), gr={2: 0x1000},
+           **dat(pages=(0, INVALID | 0x80000000 >> n)))
+stored("segment_invalid_entry_at_0", 0x10, 1, old=A31 | TEXT, **dat(segments=(0x20,)))
+stored("translation_page_entry_at_0", 0x12, text=load(1, 0, 2), gr={2: SPOT}, **dat(segments=(0x1C0, 0)))
+add("page_table_length_last", "I 4 1", load(1, 0, 2) + END, gr={2: 0xF000}, **dat(pages=(0, *[INVALID] * 14, 0)))
+# Tables at the end of the extent, in frame 0 as page 15: the entry at FFFC hex is the last one in it.
+add("segment_entry_last_in_extent", "I 4 1", load(1, 0, 2) + END, gr={2: 0x3FF00000},
+    **dat(cr1=0xF040, host={15: 0}, mem={0xFFC: hexes(0x1C0)}))
+stored("addressing_segment_entry", 5, text=load(1, 0, 2), gr={2: 0x40000000}, **dat(cr1=0xF040, host={15: 0}))
+add("page_entry_last_in_extent", "I 4 1", load(1, 0, 2) + END, gr={2: SPOT | 0xF000},
+    **dat(segments=(0x1C0, 0xFFC1), host={15: 0}))
+stored("addressing_page_entry", 5, text=load(1, 0, 2), gr={2: SPOT | 0x10000}, **dat(segments=(0x1C0, 0xFFC1), host={15: 0}))
+add("byte_by_dat_last_in_extent", "I 4 1", load(1, 0, 2) + END, gr={2: 0x1FFC}, **dat(pages=(0, 0xF000), host={15: 0}))
+# Entries in block 0, which is absolute 1000 hex, and in the prefix block, which is absolute 0
+for name, cr1, mem in [
+    ("block_0", 0, {0x1000: hexes(0x1C0, 0x20), 0x11C0: hexes(0x1000, INVALID)}),
+    ("prefix_block", 0x1000, {0: hexes(0x11C0, 0x20), 0x1C0: hexes(0x1000, INVALID)}),
+]:
+    moved = {"prefix": 0x1000, "psw": psw(DAT), "cr": {0: FORMAT, 1: cr1}, "mem": mem, "control": 0x40, **AWAY, **TWO}
+    add(f"segment_invalid_in_{name}", "I 8 0", load(1, 0, 2), gr={2: SPOT}, **moved)
+    add(f"page_invalid_in_{name}", "I 8 0", load(1, 0, 2), gr={2: 0x1000}, **moved)
+    add(f"valid_in_{name}", "I 4 1", load(1, 0, 2) + END, gr={2: 0xFFC}, **moved)
+
+# The host's, at SPOT, by the paths that are left
+
+for code, entry in FAULTS.items():
+    reach = {"spot": entry, "extent": 17}
+    line = f"H {code} 0"
+    by_dat = dat(pages=(0, SPOT), **reach)
+    area = {"prefix": SPOT, "psw": psw(0, A31 | SPOT | TEXT), **reach}  # real SPOT is absolute 0
+    add(f"host_{code}_store_by_dat", line, st(1, 0, 2), gr={2: 0x1000}, **by_dat)
+    add(f"host_{code}_malformed_psw", line, **{**area, "psw": psw(0x4000, A31 | SPOT | TEXT)})
+    if code == 4:
+        add("host_protected_load_by_dat", "I 4 1", load(1, 0, 2) + END, gr={2: 0x1000}, **by_dat)
+    else:
+        add(f"host_{code}_load_by_dat", line, load(1, 0, 2), gr={2: 0x1000}, **by_dat)
+        add(f"host_{code}_text_by_dat", line, **{**by_dat, "psw": psw(DAT, A31 | 0x1000)})
+        add(f"host_{code}_segment_entry_in_block_0", line, cr={0: FORMAT}, **{**area, "psw": psw(DAT)})
+        add(f"host_{code}_prefix_svc", line, svc(1), **area)
+    if code in (5, 16):
+        add(f"host_{code}_page_entry", line, **dat(segments=(SPOT,), **reach))
+    if code in (5, 16, 18):
+        add(f"host_{code}_store", line, st(1, 0, 2), gr={2: SPOT}, **reach)
+    # The area of a guest exception that names a table itself
+    for name, at in ("segment_invalid", SPOT), ("page_invalid", 0x1000):
+        tables = dat(segments=(SPOT | 0x1C0, 0x20), pages=(SPOT, INVALID), cr1=SPOT, prefix=SPOT, **reach)
+        add(f"host_{code}_area_of_{name}", line, load(1, 0, 2), gr={2: at}, **tables)
+        add(f"host_{code}_no_area_of_{name}_code_8", "I 8 0", load(1, 0, 2), gr={2: at}, control=0x40, **tables)
+    area["psw"] = basic(0, SPOT | TEXT)
+    system370(f"host_{code}_prefix_svc", line=line, text=svc(1), **area)
+    system370(f"host_{code}_prefix_program", line=line, text="0000", **area)
+    system370(f"host_{code}_store", line=line, text=st(1, 0x400), **area)
+    if code != 4:
+        system370(f"host_{code}_load", line=line, text=load(1, 0x400), **area)
+        system370(f"host_{code}_text", line=line, **{**area, "psw": basic()})
+for code, entry in (5, FRAME), (17, INVALID), (18, 0x800):
+    if code != 17:
+        add(f"cross_load_host_{code}", f"H {code} 0", load(1, 0, 2), gr={2: 0xFFE}, host={1: entry})
+    add(f"cross_store_host_{code}", f"H {code} 0", st(1, 0, 2), gr={2: 0xFFE}, host={1: entry})
+    add(f"cross_text_host_{code}", f"H {code} 0", "47f0", at=0xFFE, psw=psw(0, A31 | 0xFFE), host={1: entry})
+add("host_17_page_entry_at_0", "H 17 0", frames=2, segment=0, mem={0: hexes(INVALID)})
+add("host_page_entry_at_0", "I 4 0", frames=2, segment=0)
+
+# The host's, where a segment or a page is past its table, or an entry past the storage. Guest page 0, in frame 0, is host page
+# 32 of segment 1023; FAR and the page before it, both in frame 1, are host pages 16 and 15 of segment 1024
+
+FAR = 0xF0000
+
+
+def far(name, line, text=END, frames=2, designation=0x40, segment=0x1401, mem=(), **given):
+    """The segment table is in frames 0 and 1, the page tables at 1080 and 1400 hex. The last word of the storage is the entry
+    of segment 1023 for a table in the last frame, and that of the page before FAR for a page table that ends there."""
+    b = bytearray(frames * FRAME)
+    parts = {TEXT: text, 0xFFC: hexes(0x1082), 0x1000: hexes(segment), 0x143C: hexes(0x1000, 0x1000), len(b) - 4: hexes(0x1082),
+             0x1060: WAITING, 0x1068: WAITING, **dict(mem)}
+    for place, part in parts.items():
+        part = bytes.fromhex(part)
+        b[place:place + len(part)] = part
+    assert len(b) == frames * FRAME
+    keep(name, line, pack(record(origin=0x3FF2, extent=16, **given), bytes(b), designation=designation))
+
+
+FAR_DAT = {"psw": psw(DAT), "cr": {0: FORMAT},
+           "mem": {0: hexes(0x1C0, FAR | 0x300), 0x1C0: hexes(0, FAR), 0x1300: hexes(0x1C0, 0)}}
+FAR_AREA = {"prefix": FAR, "psw": psw(0, A31 | FAR | TEXT)}  # real FAR is absolute 0
+PATHS = {  # the line where the host gives FAR, and the guest
+    "text": ("I 4 0", {"psw": psw(0, A31 | FAR | TEXT), "mem": {0x1200: END}}),
+    # BC 15,0, of which the second halfword is that of the segment entry
+    "text_second_half": ("I 4 1", {"psw": psw(0, A31 | FAR - 2), "mem": {0x1FFE: "47f0", 0: END}, "frames": 3}),
+    "load": ("I 4 1", {"text": load(1, 0x500, 2) + END, "gr": {2: FAR}}),
+    "load_second_page": ("I 4 1", {"text": load(1, 0, 2) + END, "gr": {2: FAR - 2}}),
+    "store": ("I 4 1", {"text": st(1, 0x500, 2) + END, "gr": {2: FAR}}),
+    "store_second_page": ("I 4 1", {"text": st(1, 0, 2) + END, "gr": {1: 0x12340000, 2: FAR - 2}}),
+    "load_by_dat": ("I 4 1", {"text": load(1, 0x500, 2) + END, "gr": {2: 0x1000}, **FAR_DAT}),
+    "store_by_dat": ("I 4 1", {"text": st(1, 0x500, 2) + END, "gr": {2: 0x1000}, **FAR_DAT}),
+    "segment_entry": ("I 4 0", {**FAR_DAT, "psw": psw(DAT, A31 | 0x0C000000 | TEXT), "cr": {0: FORMAT, 1: FAR | 12}}),
+    "page_entry": ("I 4 0", {**FAR_DAT, "psw": psw(DAT, A31 | 0x00101000 | TEXT)}),
+    "load_page_entry": ("I 4 1", {**FAR_DAT, "text": load(1, 0, 2) + END, "gr": {2: 0x00101000}}),
+    "prefix_svc": ("I 28 1", {**FAR_AREA, "text": svc(1)}),
+    "prefix_program": ("I 28 1", {**FAR_AREA, "text": "0000"}),
+    "malformed_psw": ("I 28 1", {**FAR_AREA, "psw": psw(0x4000, A31 | FAR | TEXT)}),
+    "timer": ("I 4 1", {"text": lr(2, 3) + END, "size": 208, "mode": 4, "residue": FULL, "prefix": FAR,
+                        "psw": basic(0, FAR | TEXT)}),
+}
+for path, (good, given) in PATHS.items():
+    end = given.get("frames", 2) * FRAME
+    far(f"host_tables_{path}", good, **given)
+    for name, code, bad in [
+        ("segment_past_table", 16, {"designation": 0x3F}),
+        ("segment_entry_past_storage", 5, {"designation": end - FRAME | 0x40}),
+        ("segment_bit_0", 18, {"segment": 0x80001401}),
+        ("page_past_table", 17, {"segment": 0x1400}),
+        ("page_entry_past_storage", 5, {"segment": end - 64 | 1}),
+    ]:
+        if not ("segment" in name and "second" in path):  # the page before FAR is in its segment
+            far(f"host_{name}_{path}", f"H {code} 0", **given, **bad)
 
 
 def main():

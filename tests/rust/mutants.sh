@@ -1,7 +1,7 @@
 #!/bin/sh
-# Mutates the model in many small ways and checks that `compare`, with its default cases and seed, finds each; those of request
-# 1/12 must be found by tests/system_370.rs too. Not in the gate. Takes some minutes. With arguments: only the mutants whose names
-# contain one of these words.
+# Mutates the model in many small ways and checks that `compare`, with its default cases and seed, finds each; those of requests
+# 1/12 and 2/12 must be found by tests/system_370.rs and tests/which_table.rs too. Not in the gate. Takes some minutes. With
+# arguments: only the mutants whose names contain one of these words.
 set -u
 . "$(dirname "$0")/../../tools/plain.sh"
 package=$(cd "$(dirname "$0")" && pwd)
@@ -19,6 +19,8 @@ wanted="$*"
 caught=0
 missed=0
 total=0
+# The tests that must find a mutant.
+suite=system_370
 
 # mutant NAME SED-SCRIPT [PROGRAM]: must be found by compare, or by PROGRAM, which is compare, tests or both.
 mutant() {
@@ -56,7 +58,7 @@ mutant() {
         found="case $where"
     fi
     if [ "$program" != compare ]; then
-        cargo test --release --offline --test system_370 >"$scratch/output" 2>&1
+        cargo test --release --offline --test "$suite" >"$scratch/output" 2>&1
         where=$(grep -c '^test .* FAILED$' "$scratch/output")
         if [ "$where" -eq 0 ]; then
             echo "MISSED  $1: by the tests"
@@ -98,14 +100,14 @@ mutant "only the first byte of an operand tested" 's/places\.push\(self\.access\
 mutant "no wrap of operand bytes" 's/let logical = wrap\(self\.record, address\)/let logical = address/'
 mutant "31-bit wrap in 24-bit mode" 's/address & 0x00FF_FFFF/address \& 0x7FFF_FFFF/'
 mutant "prefixing one way" 's/if real & 0x7FFF_F000 == prefix \{/if false {/'
-mutant "guest table references not prefixed" 's/let \(absolute, _\) = self\.real_to_host\(real\)\?;/self.real_to_host(real)?; let host_address = origin_bytes(self.record) + real; let (absolute, _) = self.host_translate(host_address).map_err(|code| Failure::Host(code, host_address))?;/'
-mutant "guest table entry wraps at 2^31" 's/guest_table_word\(\(designation & 0x7FFF_F000\) \+ 4 \* segment_index\)/guest_table_word((designation \& 0x7FFF_F000) + 4 * segment_index \& 0x7FFF_FFFF)/'
-mutant "guest page table entry wraps at 2^31" 's/guest_table_word\(\(segment_entry & 0x7FFF_FFC0\) \+ 4 \* page_index\)/guest_table_word((segment_entry \& 0x7FFF_FFC0) + 4 * page_index \& 0x7FFF_FFFF)/'
+mutant "guest table references not prefixed" 's/match self\.real_to_host\(real, walk\) \{/let address = origin_bytes(self.record) + real; let unprefixed = || self.host_translate(address).map_err(|(code, table)| Failure::Host(Fault { code, address, table, walk }));\nmatch self.real_to_host(real, walk).and_then(|_| unprefixed()) {/'
+mutant "guest table entry wraps at 2^31" 's/let segment_at = \(designation & 0x7FFF_F000\) \+ 4 \* segment_index;/let segment_at = (designation \& 0x7FFF_F000) + 4 * segment_index \& 0x7FFF_FFFF;/'
+mutant "guest page table entry wraps at 2^31" 's/let page_at = \(segment_entry & 0x7FFF_FFC0\) \+ 4 \* page_index;/let page_at = (segment_entry \& 0x7FFF_FFC0) + 4 * page_index \& 0x7FFF_FFFF;/'
 mutant "origin added before the extent test" 's/if real as u64 >= extent_bytes/if (origin_bytes(self.record) as u64 + real as u64) >= extent_bytes/'
 mutant "low-address protection below 511" 's/logical <= 511/logical < 511/'
 mutant "low-address protection of 512 too" 's/logical <= 511/logical <= 512/'
 mutant "low-address protection of fetches" 's/if access == Access::Store && logical <= 511/if logical <= 511/'
-mutant "low-address protection after translation" '/if access == Access::Store && logical <= 511/,/^        }/ d; s/^        let \(real, guest_protected\) = self\.guest_translate\(logical\)\?;/&\nif access == Access::Store \&\& real <= 511 \&\& bit(control_register(self.record, 0), 3) { return Err(Failure::Guest(PROTECTION, 0)); }/'
+mutant "low-address protection after translation" '/if access == Access::Store && logical <= 511/,/^        }/ d; s/^        let \(real, guest_protected\) = self\.guest_translate\(logical\)\?;/&\nif access == Access::Store \&\& real <= 511 \&\& bit(control_register(self.record, 0), 3) { return Err(Failure::Guest(PROTECTION, 0, Table::NONE)); }/'
 mutant "CR0 bit 12 not tested" 's/>> 19 & 0x1F != 0b10110/>> 20 \& 0xF != 0b1011/'
 mutant "guest segment length off by one" 's/segment_index >> 4 > designation & 0x7F/segment_index >> 4 >= designation \& 0x7F/'
 mutant "guest page-table length ignored" '/fn guest_translate/,/fn access/ s/page_index >> 4 > segment_entry & 0xF/page_index >> 4 > 0xF/'
@@ -115,14 +117,14 @@ mutant "guest page format before invalid" '/fn guest_translate/,/fn access/ s/if
 mutant "page bit 24 tested" '/fn guest_translate/,/fn access/ s/\|\| bit\(page_entry, 23\)/|| bit(page_entry, 23) || bit(page_entry, 24)/'
 mutant "page bit 23 not tested" '/fn guest_translate/,/fn access/ s/\|\| bit\(page_entry, 23\)//'
 mutant "translation address not cut" 's/let page_address = logical & 0x7FFF_F000/let page_address = logical/'
-mutant "guest page protection before the host page" 's/^        let \(absolute, host_protected\) = self\.real_to_host\(real\)\?;/if self.access_is_guarded() \&\& guest_protected \&\& access == Access::Store { return Err(Failure::Guest(PROTECTION, 0)); }\n&/; /fn area_access/,/^    }/ s/self\.access_is_guarded\(\) && guest_protected/self.access_is_guarded() \&\& false/; /fn area_access/,/^    }/ s/if .* && guest_protected .*return Err\(Failure::Guest\(PROTECTION, 0\)\); }//; s/^    fn host_word/fn access_is_guarded(\&self) -> bool { true }\n&/'
+mutant "guest page protection before the host page" 's/^        let \(absolute, host_protected\) = self\.real_to_host\(real, Walk::Byte\)\?;/if guest_protected \&\& access == Access::Store { return Err(Failure::Guest(PROTECTION, 0, Table::NONE)); }\n&/'
 mutant "key compared on wrong bits" 's/access_key != storage_key >> 4/access_key != storage_key \& 0xF/'
 mutant "fetch protection not applied" 's/access == Access::Store \|\| storage_key & 0x08 != 0/access == Access::Store/'
 mutant "fetch-protection override applied" 's/if access_key != 0 && access_key != storage_key >> 4 \{/if access_key != 0 \&\& access_key != storage_key >> 4 \&\& !(access == Access::Fetch \&\& logical < 2048 \&\& bit(control_register(self.record, 0), 6)) {/'
 mutant "fetch protection always" 's/access == Access::Store \|\| storage_key & 0x08 != 0/true/'
 mutant "host protection on fetches" '/fn access\(/,/^    }/ s/if access == Access::Store && host_protected/if host_protected/'
-mutant "host protection before the key" 's/^        let access_key = self\.record\[PSW \+ 1\] >> 4;/if access == Access::Store \&\& host_protected { return Err(Failure::Host(PROTECTION, origin_bytes(self.record) + self.prefixed(real))); }\n&/'
-mutant "host address of a fault without origin" 's/map_err\(\|code\| Failure::Host\(code, host_address\)\)/map_err(|code| Failure::Host(code, host_address - origin_bytes(self.record)))/'
+mutant "host protection before the key" 's/^        let access_key = self\.record\[PSW \+ 1\] >> 4;/if access == Access::Store \&\& host_protected { return Err(self.host_protection(real, Walk::Byte)); }\n&/'
+mutant "host address of a fault without origin" 's/Failure::Host\(Fault \{ code, address, table, walk \}\)/Failure::Host(Fault { code, address: address - origin_bytes(self.record), table, walk })/'
 # These keep the storage as it was when the run began, and read tables there.
 snapshot='s/^pub fn run\(/thread_local! { static START: std::cell::RefCell<Vec<u8>> = const { std::cell::RefCell::new(Vec::new()) }; }\n&/; s/^    let view = View \{ record, storage, keys, designation \};/START.with(|start| *start.borrow_mut() = storage.to_vec());\n&/; s/^    record\[RESULT_CODE\.\.66\]\.fill\(0\);/&\nSTART.with(|start| *start.borrow_mut() = storage.to_vec());/'
 mutant "host tables as at the start of the run" "$snapshot"'; s/Ok\(word\(self\.storage, address as usize\)\)/Ok(START.with(|start| word(\&start.borrow(), address as usize)))/'
@@ -148,7 +150,7 @@ mutant "LPSW not aligned" '/Operation::LoadPsw => \{$/,/^        }/ s/address % 
 mutant "overflow loses its result" 's/if code != FIXED_POINT_OVERFLOW \{/if true {/'
 mutant "overflow without condition code 3" 's/return \(result, 3, true\)/return (result, if (result as i32) < 0 { 1 } else { 2 }, true)/'
 mutant "overflow interrupts without PSW bit 20" 's/if overflow && overflow_is_enabled\(record\)/if overflow/'
-mutant "overflow kept at a host fault" '/fn program_exception/,/^    }/ s/Err\(failure\) => UnitEnd::Exit\(host_fault\(failure\)\),/Err(failure) => { if code == FIXED_POINT_OVERFLOW { self.record[GENERAL_REGISTERS..].copy_from_slice(\&unit.record[GENERAL_REGISTERS..]); } UnitEnd::Exit(host_fault(failure)) }/'
+mutant "overflow kept at a host fault" '/fn program_exception/,/^    }/ s/Err\(failure\) => self\.host_fault\(failure\),/Err(failure) => { if code == FIXED_POINT_OVERFLOW { self.record[GENERAL_REGISTERS..].copy_from_slice(\&unit.record[GENERAL_REGISTERS..]); } self.host_fault(failure) }/'
 mutant "STCK leaves the condition code" '/Operation::StoreClock =>/,/^        }/ s/set_condition_code\(&mut unit\.record, 0\);//'
 mutant "BCR branches on register 0" 's/if second != 0 && first as u8/if first as u8/'
 mutant "LA not cut" 's/wrap\(record, index\.wrapping_add\(base_and_displacement\(record, text\)\)\)/index.wrapping_add(base_and_displacement(record, text))/'
@@ -328,6 +330,72 @@ mutant "case file's size by the version" 's/let size = if halfword\(file, 23\) =
 mutant "case file's size by the low byte of the field" 's/let size = if halfword\(file, 23\) == 208/let size = if file[24] == 208/' tests
 mutant "frame count of 9 taken" 's/\(1\.\.=8\)\.contains\(&frames\)/(1..=9).contains(\&frames)/' tests
 mutant "frame count of 0 taken" 's/\(1\.\.=8\)\.contains\(&frames\)/(0..=8).contains(\&frames)/' tests
+
+# Request 2/12. The host's table for a guest's entry.
+suite=which_table
+mutant "the guest's table told for the host walk behind it" 's/^            Err\(failure\) => Err\(failure\),/Err(Failure::Host(fault)) => Err(Failure::Host(Fault { table: *table, ..fault })),/' both
+mutant "the guest's stage told with the host's entry" 's/^            Err\(failure\) => Err\(failure\),/Err(Failure::Host(fault)) => Err(Failure::Host(Fault { table: Table { entry: fault.table.entry, ..*table }, ..fault })),/' both
+mutant "the guest's entry told with the host's stage" 's/^            Err\(failure\) => Err\(failure\),/Err(Failure::Host(fault)) => Err(Failure::Host(Fault { table: Table { entry: fault.table.entry.and(Some(real)), ..fault.table }, ..fault })),/' both
+mutant "no stage of the host walk behind a guest's entry" 's/^            Err\(failure\) => Err\(failure\),/Err(Failure::Host(fault)) => Err(Failure::Host(Fault { table: Table::NONE, ..fault })),/' both
+mutant "the guest's stage told for the host walk behind its page entry" 's/^            Err\(failure\) => Err\(failure\),/Err(Failure::Host(fault)) if walk == Walk::GuestPageEntry => Err(Failure::Host(Fault { table: Table { stage: Stage::GuestPage, ..fault.table }, ..fault })),\n&/' both
+mutant "a host page told as the guest's for its segment entry" 's/^            Err\(failure\) => Err\(failure\),/Err(Failure::Host(fault)) if walk == Walk::GuestSegmentEntry \&\& fault.table.stage == Stage::HostPage => Err(Failure::Host(Fault { table: Table { stage: Stage::GuestSegment, ..fault.table }, ..fault })),\n&/' both
+
+# Request 2/12: entries that were not read.
+mutant "address of a host entry past the storage" 's/return Err\(\(ADDRESSING, \*table\)\)/return Err((ADDRESSING, Table::read(table.stage, address)))/' both
+mutant "address of a guest entry past the extent" 's/Failure::Guest\(code, address, \*table\)/Failure::Guest(code, address, Table::read(table.stage, real))/' both
+mutant "address of a host segment entry over the length" '/fn host_translate/,/fn host_word/ { /if segment_index >> 4/,/}/ s/, table\)/, Table::read(table.stage, (self.designation \& 0x7FFF_F000) + 4 * segment_index))/ }' both
+mutant "address of a host page entry over the length" '/fn host_translate/,/fn host_word/ { /if page_index >> 4/,/}/ s/, table\)/, Table::read(table.stage, (segment_entry \& 0x7FFF_FFC0) + 4 * page_index))/ }' both
+mutant "address of a guest segment entry over the length" '/fn guest_translate/,/fn access/ { /if segment_index >> 4/,/}/ s/, table\)/, Table::read(table.stage, (designation \& 0x7FFF_F000) + 4 * segment_index))/ }' both
+mutant "address of a guest page entry over the length" '/fn guest_translate/,/fn access/ { /if page_index >> 4/,/}/ s/, table\)/, Table::read(table.stage, (segment_entry \& 0x7FFF_FFC0) + 4 * page_index))/ }' both
+mutant "host page index over the length as segment stage" '/fn host_translate/,/fn host_word/ { /if page_index >> 4/,/}/ s/, table\)/, Table::unread(Stage::HostSegment))/ }' both
+mutant "guest page index over the length as segment stage" '/fn guest_translate/,/fn access/ { /if page_index >> 4/,/}/ s/, table\)/, Table::unread(Stage::GuestSegment))/ }' both
+mutant "host page index over the length with the segment's entry" '/fn host_translate/,/fn host_word/ { /if page_index >> 4/,/}/ s/, table\)/, Table::read(table.stage, (self.designation \& 0x7FFF_F000) + 4 * segment_index))/ }' both
+mutant "guest page index over the length with the segment's entry" '/fn guest_translate/,/fn access/ { /if page_index >> 4/,/}/ s/, table\)/, Table::read(table.stage, segment_at))/ }' both
+mutant "host page entry past the storage as segment stage" 's/return Err\(\(ADDRESSING, \*table\)\)/return Err((ADDRESSING, Table::unread(Stage::HostSegment)))/' both
+mutant "guest page entry past the extent as segment stage" 's/Failure::Guest\(code, address, \*table\)/Failure::Guest(code, address, Table::unread(Stage::GuestSegment))/' both
+mutant "host entry past the storage as none" 's/return Err\(\(ADDRESSING, \*table\)\)/return Err((ADDRESSING, Table::NONE))/' both
+mutant "guest entry past the extent as a final address" 's/Failure::Guest\(code, address, \*table\)/Failure::Guest(code, address, Table::NONE)/' both
+
+# Request 2/12: entries that were read.
+mutant "no address of a host segment entry" '/fn host_translate/,/fn host_word/ { /if bit\(segment_entry/,/}/ s/, table\)/, Table::unread(table.stage))/ }' both
+mutant "no address of an invalid host page entry" '/fn host_translate/,/fn host_word/ { /if bit\(page_entry, 21/,/}/ s/, table\)/, Table::unread(table.stage))/ }' both
+mutant "no address of a malformed host page entry" '/fn host_translate/,/fn host_word/ { /if bit\(page_entry, 0/,/}/ s/, table\)/, Table::unread(table.stage))/ }' both
+mutant "no address of a malformed guest segment entry" '/fn guest_translate/,/fn access/ { /if bit\(segment_entry, 0/,/}/ s/, table\)/, Table::unread(table.stage))/ }' both
+mutant "no address of an invalid guest page entry" '/fn guest_translate/,/fn access/ { /if bit\(page_entry, 21/,/}/ s/, table\)/, Table::unread(table.stage))/ }' both
+mutant "a malformed host segment entry as page stage" '/fn host_translate/,/fn host_word/ { /if bit\(segment_entry, 0/,/}/ s/, table\)/, Table { stage: Stage::HostPage, ..table })/ }' both
+mutant "an invalid guest segment entry as page stage" '/fn guest_translate/,/fn access/ { /if bit\(segment_entry, 26/,/}/ s/, table\)/, Table { stage: Stage::GuestPage, ..table })/ }' both
+mutant "the segment's entry for a bad host page" 's/^        let page_entry = self\.host_word\(.*/&\ntable.entry = Some((self.designation \& 0x7FFF_F000) + 4 * segment_index);/' both
+mutant "the segment's entry for a bad guest page" 's/^        let page_entry = self\.guest_word\(.*/&\ntable.entry = Some(segment_at);/' both
+mutant "a bad host page as segment stage" 's/^        let page_entry = self\.host_word\(.*/&\ntable.stage = Stage::HostSegment;/' both
+mutant "a bad guest page as host page" 's/^        let page_entry = self\.guest_word\(.*/&\ntable.stage = Stage::HostPage;/' both
+mutant "absolute address of a guest entry" 's/table\.entry = Some\(real\)/table.entry = Some(self.prefixed(real))/' both
+mutant "host virtual address of a guest entry" 's/table\.entry = Some\(real\)/table.entry = Some(origin_bytes(self.record) + self.prefixed(real))/' both
+mutant "host absolute address of a guest entry" 's/table\.entry = Some\(real\)/table.entry = Some(absolute)/' both
+mutant "prefixed address of a host entry" 's/table\.entry = Some\(address\)/table.entry = Some(self.prefixed(address))/' both
+mutant "the next host entry" 's/table\.entry = Some\(address\)/table.entry = Some(address + 4)/' both
+mutant "the group of a guest entry" 's/table\.entry = Some\(real\)/table.entry = Some(real \& 0x7FFF_FFC0)/' both
+mutant "a frame beyond the storage as none" '/fn host_translate/,/fn host_word/ s/return Err\(\(ADDRESSING, table\)\)/return Err((ADDRESSING, Table::NONE))/' both
+mutant "a frame beyond the storage without its entry" '/fn host_translate/,/fn host_word/ s/return Err\(\(ADDRESSING, table\)\)/return Err((ADDRESSING, Table::unread(table.stage)))/' both
+mutant "stages numbered otherwise" '/^pub enum Stage/,/^}/ { s/GuestPage/Other/; s/HostSegment/GuestPage/; s/Other/HostSegment/ }' both
+
+# Request 2/12: none and zero.
+mutant "host page protection with a stage" 's/code: PROTECTION, address, table: Table::NONE/code: PROTECTION, address, table: Table::unread(Stage::HostPage)/' both
+mutant "low-address protection with a stage" '/if access == Access::Store && logical <= 511/,/}/ s/Table::NONE/Table::unread(Stage::GuestSegment)/' both
+mutant "guest page protection with a stage" '/if access == Access::Store && guest_protected/,/}/ s/Table::NONE/Table::unread(Stage::GuestPage)/' both
+mutant "key protection with a stage" '/if access_key != 0/,/}/ s/Table::NONE/Table::unread(Stage::HostPage)/' both
+mutant "bad CR0 with a stage" '/>> 19 & 0x1F != 0b10110/,/}/ s/Table::NONE/Table::unread(Stage::GuestSegment)/' both
+mutant "a final address past the extent with a stage" '/fn real_to_host/,/^    }/ s/Table::NONE/Table::unread(Stage::GuestPage)/' both
+mutant "a final address past the extent as the host's" '/fn real_to_host/,/^    }/ s/Table::NONE/Table::unread(Stage::HostSegment)/' both
+
+# Request 2/12: the two operations.
+mutant "run's host fault without its stage" '/fn host_fault/,/^    }/ s/fault\.answer\(\)/Answer::HostFault(fault.code, fault.address, Table::NONE)/' both
+mutant "run's host fault without its entry" '/fn host_fault/,/^    }/ s/fault\.answer\(\)/Answer::HostFault(fault.code, fault.address, Table::unread(fault.table.stage))/' both
+mutant "an area's host fault without its stage" '/fn host_fault/,/^    }/ s/fault\.answer\(\)/Answer::HostFault(fault.code, fault.address, if fault.walk == Walk::Area { Table::NONE } else { fault.table })/' both
+mutant "the word's host fault without its stage" '/fn host_fault/,/^    }/ s/fault\.answer\(\)/Answer::HostFault(fault.code, fault.address, if self.events.fault_at_word { Table::NONE } else { fault.table })/' both
+mutant "the word's host fault without its entry" '/fn host_fault/,/^    }/ s/fault\.answer\(\)/Answer::HostFault(fault.code, fault.address, if self.events.fault_at_word { Table::unread(fault.table.stage) } else { fault.table })/' both
+mutant "translate's host fault without its stage" '/^pub fn translate_and_walk/,/^}/ s/fault\.answer\(\)/Answer::HostFault(fault.code, fault.address, Table::NONE)/' both
+mutant "translate's exception without its stage" 's/Answer::ProgramException\(code, table\), None/Answer::ProgramException(code, Table { stage: Stage::None, ..table }), None/' both
+mutant "translate's exception without its entry" 's/Answer::ProgramException\(code, table\), None/Answer::ProgramException(code, Table::unread(table.stage)), None/' both
 
 echo "mutants: $total, caught $caught, missed $missed"
 [ $missed -eq 0 ] && [ $total -gt 0 ]

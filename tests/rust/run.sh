@@ -1,6 +1,6 @@
 #!/bin/sh
-# Builds the tests against the static library and runs them: worked examples, request 1/12, library against model, isolation,
-# resumption, case files.
+# Builds the tests against the static library and runs them: worked examples, requests 1/12 and 2/12, library against model,
+# isolation, resumption, case files.
 set -eu
 . "$(dirname "$0")/../../tools/plain.sh"
 cd "$(dirname "$0")"

@@ -95,6 +95,12 @@ module _ (g : Guest) (d : ℕ) (s : List ℕ) (absolute v : ℕ) (space : hostVi
   pub behind-virtual : v < 2 ^ 32 → v ≡ hostVirtual g absolute
   behind-virtual low = by-extent (λ below own. own) (λ past own. absurd (omega arith))
 
+  pub inside-extent : v < 2 ^ 32 → absolute < extentBytes g
+  inside-extent low = by-extent (λ below own. below) (λ past own. absurd (omega arith))
+
+  pub outside-extent : 2 ^ 32 ≤ v → extentBytes g ≤ absolute
+  outside-extent high = by-extent (λ below own. absurd (omega arith)) (λ past own. past)
+
   pub behind-outside : 2 ^ 32 ≤ v → (a : ℕ) → backing g (host d s []) absolute ≡ Failed (failureIn a v)
   unfolding backing failureIn walkException
   behind-outside high a = by-extent (λ below own. absurd (omega arith)) (λ past own. rw (le-ltb _ _ past, own))

@@ -56,8 +56,8 @@ fn both(x: bool, y: bool) -> bool
     false
 }
 
-// What addressing looks at: the guest's origin, extent and prefix in bytes, the PSW's left word as addressing looks at it, and control
-// registers 0 and 1.
+// What addressing looks at: the guest's origin, extent and prefix in bytes, the PSW's left word as addressing looks at it, control
+// registers 0 and 1, and the host's designation.
 pub struct Space {
     pub origin: u32,
     pub extent: u32,
@@ -65,6 +65,7 @@ pub struct Space {
     pub left: u32,
     pub cr0: u32,
     pub cr1: u32,
+    pub designation: u32,
 }
 
 // The PSW's left word as addressing looks at it: its access key, and bit 5 as DAT. A BC PSW has none: its bit 5 is a channel's mask.
@@ -79,9 +80,9 @@ fn addressing_left(psw: Psw) -> u32
     psw.left
 }
 
-pub fn space_of(guest: Guest, psw: Psw, cr0: u32, cr1: u32) -> Space
+pub fn space_of(guest: Guest, psw: Psw, cr0: u32, cr1: u32, designation: u32) -> Space
     requires { ⌜ Entered guest ⌝ }
-    ensures { λ r. ⌜ Fits r × ((c : Cpu) → psw ≡ c .psw → cr0 ≡ control c 0 → cr1 ≡ control c 1 → Sees r guest c) ⌝ }
+    ensures { λ r. ⌜ Fits r × (r .designation ≡ designation) × ((c : Cpu) → psw ≡ c .psw → cr0 ≡ control c 0 → cr1 ≡ control c 1 → Sees r guest c) ⌝ }
 {
     Space {
         origin: guest.origin as u32 * 65536,
@@ -90,6 +91,7 @@ pub fn space_of(guest: Guest, psw: Psw, cr0: u32, cr1: u32) -> Space
         left: addressing_left(psw),
         cr0,
         cr1,
+        designation,
     }
 }
 
@@ -110,7 +112,7 @@ fn faulted(code: u64, v: u32) -> u64
 }
 
 // The host virtual address of a guest real one, or addressing. Both blocks that prefixing exchanges lie below the extent.
-fn virtual_of(space: Space, real: u32) -> u64
+pub fn virtual_of(space: Space, real: u32) -> u64
     requires { ⌜ Fits space ⌝ }
     ensures { λ r. ⌜ ((g : Guest) (c : Cpu) → Sees space g c → r ≡ virtualIn g (prefixed g real)) ⌝ }
 {
@@ -176,7 +178,7 @@ pub fn by_page(word: u32) -> u64
 }
 
 // The guest table entry at a host virtual address, in the host page that was found for it.
-fn table_word(storage: &[u8], page: u64, v: u32) -> u32
+pub fn table_word(storage: &[u8], page: u64, v: u32) -> u32
     ensures { λ r. ⌜ r ≡ cond (inside (now (storage .entry)) (inFrame (frameOf page) v)) (wordAt (now (storage .entry)) (inFrame (frameOf page) v)) v ⌝ }
 {
     storage::word_or(storage, (page / 4096 % 524288) as u32 * 4096 + v % 4096, v)
@@ -247,7 +249,7 @@ fn from_segment_entry(storage: &[u8], designation: u32, space: Space, a: u32, re
 }
 
 // DAT is on, by the left word as addressing looks at it.
-fn dat_on(left: u32) -> bool
+pub fn dat_on(left: u32) -> bool
     ensures { λ r. ⌜ r ≡ bit 32 5 left ⌝ }
 {
     left / 67108864 % 2 == 1
@@ -349,17 +351,11 @@ fn in_page(
 }
 
 // Where the byte at a wrapped logical address stands in host storage, or why it cannot be reached, as one number.
-pub fn locate(
-    storage: &[u8],
-    keys: &[u8],
-    designation: u32,
-    space: Space,
-    store: bool,
-    a: u32,
-) -> u64
+pub fn locate(storage: &[u8], keys: &[u8], space: Space, store: bool, a: u32) -> u64
     requires { ⌜ Fits space × (framesOf (now storage) ≤ length (now keys)) ⌝ }
-    ensures { λ r. ⌜ ((g : Guest) (c : Cpu) → Sees space g c → touchOf g (host designation (now (storage .entry)) (now (keys .entry))) c store a ≡ placeIn a r) ⌝ }
+    ensures { λ r. ⌜ ((g : Guest) (c : Cpu) → Sees space g c → touchOf g (host (space .designation) (now (storage .entry)) (now (keys .entry))) c store a ≡ placeIn a r) ⌝ }
 {
+    let designation = space.designation;
     if both(store, low_protected(space.cr0, a)) {
         return excepted(PROTECTION);
     }
@@ -436,8 +432,8 @@ pub fn touch(
 {
     let cr0 = control.words[0];
     let cr1 = control.words[1];
-    let space = space_of(guest, psw, cr0, cr1);
-    place_of(a, locate(storage, keys, designation, space, store, a))
+    let space = space_of(guest, psw, cr0, cr1, designation);
+    place_of(a, locate(storage, keys, space, store, a))
 }
 
 // Where an operand stands in host storage: count bytes from first on, and the others from second on; or why it cannot be reached.

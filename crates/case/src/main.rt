@@ -6,7 +6,7 @@ ghost use Prim.Native.Nat.{_≤_};
 ghost use lib.ListN.{length, take};
 ghost use Rattle.io.specs.Counts.{Counts};
 ghost use Rattle.packing.specs.Packing.{packedAnswer};
-ghost use Rattle.cases.specs.CaseFile.{caseOf, answerOf};
+ghost use Rattle.cases.specs.CaseFile.{caseOf, answerOf, tableOf};
 ghost use Rattle.cases.specs.Line.{lineBytes, lineOf};
 use cases::Case;
 use libc::STDIN_FILENO;
@@ -60,7 +60,7 @@ fn read_input(file: &mut [u8]) -> Input
 // The run of a well-formed case file.
 fn run_parts(file: &[u8], n: Numbers, count: usize) -> u64
     requires { ⌜ caseOf (now file) ≡ Case.Good n count ⌝ }
-    ensures { λ r. ⌜ r ≡ packedAnswer (answerOf (now (file .entry))) ⌝ }
+    ensures { λ r. ⌜ r ≡ packedAnswer (answerOf (now (file .entry))) (tableOf (now (file .entry))) ⌝ }
 {
     let mut record = cases::record_of(file);
     let long = cases::record_size(file);
@@ -83,7 +83,7 @@ fn run_parts(file: &[u8], n: Numbers, count: usize) -> u64
 // The answer, once the file is parsed.
 fn answer_as(file: &[u8], c: Case) -> u64
     requires { ⌜ c ≡ caseOf (now file) ⌝ }
-    ensures { λ r. ⌜ r ≡ packedAnswer (answerOf (now (file .entry))) ⌝ }
+    ensures { λ r. ⌜ r ≡ packedAnswer (answerOf (now (file .entry))) (tableOf (now (file .entry))) ⌝ }
 {
     match c {
         Case::Malformed => MALFORMED,
@@ -93,7 +93,7 @@ fn answer_as(file: &[u8], c: Case) -> u64
 
 // Runs a case file: the packed answer of run, or refusal 9.
 fn run_case(file: &[u8]) -> u64
-    ensures { λ r. ⌜ r ≡ packedAnswer (answerOf (now (file .entry))) ⌝ }
+    ensures { λ r. ⌜ r ≡ packedAnswer (answerOf (now (file .entry))) (tableOf (now (file .entry))) ⌝ }
 {
     answer_as(file, cases::parse(file))
 }

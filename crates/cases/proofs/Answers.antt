@@ -12,9 +12,13 @@ use Rattle.machine.specs.declared.End.the-variants.{Intercepted, HostFault, Bud
 use Rattle.machine.specs.declared.Numbers.{Numbers}
 use Rattle.machine.specs.declared.Reason.{Reason}
 use Rattle.machine.specs.declared.Reason.the-variants.{Instruction, Program, ExternalRequest, External, IoRequest, Wait, Validity, Stop, Operation}
+use Rattle.machine.specs.declared.Sought.{Sought}
+use Rattle.machine.specs.declared.Stage.{Stage}
+use Rattle.machine.specs.declared.Stage.the-variants.{None, GuestSegment, GuestPage, HostSegment, HostPage}
 use Rattle.machine.specs.declared.Verdict.{Verdict}
 use Rattle.machine.specs.declared.Verdict.the-variants as verdict
-use Rattle.machine.specs.Answers.{reasonCode, endNumber}
+use Rattle.machine.specs.Answers.{reasonCode, endNumber, stageNumber}
+use Rattle.machine.specs.Sought.{nowhere}
 use Rattle.machine.specs.Refusals.{wrongLength, wrongVersion, wrongStorage, wrongKeys, wrongBudget, wrongTime, reservedUsed, refuse, runVerdict}
 use Rattle.machine.specs.Operations.{resultOf, machineOf, runOf}
 use Rattle.machine.proofs.Runs.{units-within, runOf-cases}
@@ -86,27 +90,37 @@ small-answer file = by-form (wellFormed file)
     by-form true = small-run (numbersOf file) (recordOf file) (storageOf file) (keysOf file)
     by-form false = omega arith
 
+-- there are five stages
+small-stage : (s : Stage) → stageNumber s < 256
+unfolding stageNumber
+small-stage None = omega arith
+small-stage GuestSegment = omega arith
+small-stage GuestPage = omega arith
+small-stage HostSegment = omega arith
+small-stage HostPage = omega arith
+
 -- what was packed is found again
-unpacked : (kind number units : ℕ) → kind < 256 → number < 256 → units < 2 ^ 32
-    → (packed kind number units / 2 ^ 56 ≡ kind) × (packed kind number units / 2 ^ 48 % 256 ≡ number) × (packed kind number units % 2 ^ 32 ≡ units)
-unpacked kind number units k n u = (omega arith, omega arith, omega arith)
+unpacked : (kind number : ℕ) (s : Sought) (units : ℕ) → kind < 256 → number < 256 → units < 2 ^ 32
+    → (packed kind number s units / 2 ^ 56 ≡ kind) × (packed kind number s units / 2 ^ 48 % 256 ≡ number) × (packed kind number s units % 2 ^ 32 ≡ units)
+unpacked kind number s units k n u = let few : stageNumber (s .stage) < 256 = small-stage (s .stage) in (omega arith, omega arith, omega arith)
 
-line-of-packed : (kind number units : ℕ) → kind < 256 → number < 256 → units < 2 ^ 32
-    → packedLine (packed kind number units) ≡ kindLine kind number units
+-- the stage is not in the line
+line-of-packed : (kind number : ℕ) (s : Sought) (units : ℕ) → kind < 256 → number < 256 → units < 2 ^ 32
+    → packedLine (packed kind number s units) ≡ kindLine kind number units
 unfolding packedLine
-line-of-packed kind number units k n u = let found = unpacked kind number units k n u in rw (found .0, found .1, found .2)
+line-of-packed kind number s units k n u = let found = unpacked kind number s units k n u in rw (found .0, found .1, found .2)
 
-line-of-end : (e : End) (units : ℕ) → endNumber e < 256 → units < 2 ^ 32 → packedLine (packedEnd e units) ≡ lineOf (Ended e units)
+line-of-end : (e : End) (s : Sought) (units : ℕ) → endNumber e < 256 → units < 2 ^ 32 → packedLine (packedEnd e s units) ≡ lineOf (Ended e units)
 unfolding packedEnd kindLine lineOf endLetter endNumber
-line-of-end (Intercepted r) units n u = line-of-packed 1 (reasonCode r) units (omega arith) n u
-line-of-end (HostFault f) units n u = line-of-packed 2 (f .code) units (omega arith) n u
-line-of-end BudgetUsed units n u = line-of-packed 3 0 units (omega arith) n u
+line-of-end (Intercepted r) s units n u = line-of-packed 1 (reasonCode r) s units (omega arith) n u
+line-of-end (HostFault f) s units n u = line-of-packed 2 (f .code) s units (omega arith) n u
+line-of-end BudgetUsed s units n u = line-of-packed 3 0 s units (omega arith) n u
 
-line-of-answer : (a : Answer) → Small a → packedLine (packedAnswer a) ≡ lineOf a
+line-of-answer : (a : Answer) (s : Sought) → Small a → packedLine (packedAnswer a s) ≡ lineOf a
 unfolding packedAnswer kindLine lineOf
-line-of-answer (Refused number) small = line-of-packed 0 number 0 (omega arith) small (omega arith)
-line-of-answer (Ended e units) small = line-of-end e units (small .0) (small .1)
+line-of-answer (Refused number) s small = line-of-packed 0 number nowhere 0 (omega arith) small (omega arith)
+line-of-answer (Ended e units) s small = line-of-end e s units (small .0) (small .1)
 
--- the line of a case file's packed answer is that of its answer
-pub line-of-case : (file : List ℕ) → packedLine (packedAnswer (answerOf file)) ≡ lineOf (answerOf file)
-line-of-case file = line-of-answer (answerOf file) (small-answer file)
+-- the line of a case file's packed answer is that of its answer, whichever table was bad
+pub line-of-case : (file : List ℕ) (s : Sought) → packedLine (packedAnswer (answerOf file) s) ≡ lineOf (answerOf file)
+line-of-case file s = line-of-answer (answerOf file) s (small-answer file)

@@ -16,7 +16,7 @@ use Rattle.machine.specs.Sizes.{frameBytes}
 use Rattle.machine.specs.Words.{byteAt, halfAt}
 use Rattle.machine.specs.Record.{recordLength, longLength}
 use Rattle.machine.proofs.Tests.{on-either-arm}
-use Rattle.cases.specs.CaseFile.{versionAt, recordAt, recordSize, countAt, keysAt, lengthSaid, countOf, framesAt, caseVersion, mostCaseFrames, wellFormed, numbersOf, recordOf, keysOf, storageOf, caseOf, malformedNumber, answerOf}
+use Rattle.cases.specs.CaseFile.{versionAt, recordAt, recordSize, countAt, keysAt, lengthSaid, countOf, framesAt, caseVersion, mostCaseFrames, wellFormed, numbersOf, recordOf, keysOf, storageOf, caseOf, malformedNumber, answerOf, tableOf}
 use Rattle.cases.specs.declared.Case.the-variants.{Malformed, Good}
 
 both : (a b : Bool) → a && b ≡ true → (a ≡ true) × (b ≡ true)
@@ -121,13 +121,17 @@ good-case file n count found = by-form (wellFormed file) refl
 pub few : (file : List ℕ) (n : Numbers) (count : ℕ) → caseOf file ≡ Good n count → count ≤ mostCaseFrames
 few file n count found = let good = good-case file n count found in omega (arith, good .2, good-most file (good .0))
 
--- the run of its parts gives its answer
+-- the run of its parts gives its answer, and the table that was bad
 pub run-of-parts : (file : List ℕ) (n : Numbers) (count : ℕ) → caseOf file ≡ Good n count → {r frames keys : List ℕ}
-    → r ≡ recordOf file → frames ≡ storageOf file → keys ≡ keysOf file → runOf n r frames keys .answer ≡ answerOf file
-unfolding answerOf
+    → r ≡ recordOf file → frames ≡ storageOf file → keys ≡ keysOf file
+    → (runOf n r frames keys .answer ≡ answerOf file) × (runOf n r frames keys .table ≡ tableOf file)
+unfolding answerOf tableOf
 run-of-parts file n count found {r} {frames} {keys} whole rest marks =
     let good = good-case file n count found in
-    rw (good .0) (λ i. runOf (good .1 i) (whole i) (rest i) (marks i) .answer)
+    rw (good .0) (
+      λ i. runOf (good .1 i) (whole i) (rest i) (marks i) .answer,
+      λ i. runOf (good .1 i) (whole i) (rest i) (marks i) .table,
+    )
 
 pub malformed-answer : (file : List ℕ) → caseOf file ≡ Malformed → answerOf file ≡ Refused malformedNumber
 unfolding caseOf answerOf

@@ -8,6 +8,8 @@ use lib.ListN.{length, take, drop}
 use Rattle.machine.specs.declared.Answer.{Answer}
 use Rattle.machine.specs.declared.Answer.the-variants.{Refused}
 use Rattle.machine.specs.declared.Numbers.{Numbers}
+use Rattle.machine.specs.declared.Sought.{Sought}
+use Rattle.machine.specs.Sought.{nowhere}
 use Rattle.machine.specs.Operations.{runOf}
 use Rattle.machine.specs.Record.{recordLength, longLength}
 use Rattle.machine.specs.Sizes.{frameBytes}
@@ -104,3 +106,7 @@ malformedNumber = 9
 -- the answer that a case file asks for
 unfoldable pub answerOf : List ℕ → Answer
 answerOf file = cond (wellFormed file) (runOf (numbersOf file) (recordOf file) (storageOf file) (keysOf file) .answer) (Refused malformedNumber)
+
+-- the table that was bad, which no line says
+unfoldable pub tableOf : List ℕ → Sought
+tableOf file = cond (wellFormed file) (runOf (numbersOf file) (recordOf file) (storageOf file) (keysOf file) .table) nowhere

@@ -17,6 +17,7 @@ use Rattle.machine.specs.declared.End.the-variants.{Intercepted, BudgetUsed}
 use Rattle.machine.specs.declared.Guest.{Guest}
 use Rattle.machine.specs.declared.Numbers.{Numbers}
 use Rattle.machine.specs.declared.Reason.the-variants.{Validity}
+use Rattle.machine.specs.declared.Sought.{Sought}
 use Rattle.machine.specs.declared.Verdict.{Verdict}
 use Rattle.machine.specs.declared.Verdict.the-variants.{Accepted, Refused}
 use Rattle.machine.specs.Words.{bit, byteAt, wordsAt, wordsBytes}
@@ -28,6 +29,7 @@ use Rattle.machine.specs.Answers.{endResults}
 use Rattle.machine.specs.Run.{run}
 use Rattle.machine.specs.Operations.{resultOf, machineOf, runAs, runOf}
 use Rattle.machine.proofs.Laws.{good-length, length-withResults, guest-of-withResults, length-endResults, withResults-withCpu, withResults-withResults, withResults-withInterval}
+use Rattle.machine.proofs.Runs.{runOf-cases}
 use Rattle.machine.proofs.Words.{sets-words-same}
 use Rattle.machine.proofs.Entry.{entry-version}
 use Rattle.machine.proofs.Lens.{withCpu-cpuOf}
@@ -36,7 +38,7 @@ use Rattle.refusals.proofs.Parts.{long-record}
 use Rattle.run.specs.declared.Ended.{Ended}
 use Rattle.run.specs.Running.{plainAt, recordAt, machineAt, OfGuest, Ends}
 use Rattle.packing.specs.Packing.{packedAnswer, placeAfterRun}
-use Rattle.drevokas.specs.Giving.{Starts, Gives, RunGives}
+use Rattle.drevokas.specs.Giving.{Starts, Gives, answerSought, RunGives}
 
 module _ (n : Numbers) (r storage keys : List ℕ) (accepted : runVerdict n r storage keys ≡ Accepted) where
   pub run-length : recordLength ≤ length r
@@ -111,7 +113,7 @@ module _ (n : Numbers) (r storage keys : List ℕ) where
       → Gives (runAs n r storage keys Accepted) (answer.Ended end units) final s k
   unfolding runAs resultOf
   gives-ended g here good end units {final} {s} {k} same-end same-units left bytes marks =
-      subst (λ b. Gives (cond b (resultOf (run (n .budget) n (machineOf n r storage keys))) (resultOf (record { end = Intercepted Validity; units = 0; machine = machineOf n r storage keys })))
+      subst (λ b. Gives (cond b (resultOf n (run (n .budget) n (machineOf n r storage keys))) (resultOf n (record { end = Intercepted Validity; units = 0; machine = machineOf n r storage keys })))
       (answer.Ended end units) final s k)
       (sym (ap entryGood (sym here) ∙ good))
       (record {
@@ -181,7 +183,7 @@ module _ (n : Numbers) (r storage keys : List ℕ) where
       → Gives (runAs n r storage keys Accepted) (answer.Ended (Intercepted Validity) 0) final storage keys
   unfolding runAs resultOf machineOf
   gives-validity g here bad {final} left =
-      subst (λ b. Gives (cond b (resultOf (run (n .budget) n (machineOf n r storage keys))) (resultOf (record { end = Intercepted Validity; units = 0; machine = machineOf n r storage keys })))
+      subst (λ b. Gives (cond b (resultOf n (run (n .budget) n (machineOf n r storage keys))) (resultOf n (record { end = Intercepted Validity; units = 0; machine = machineOf n r storage keys })))
       (answer.Ended (Intercepted Validity) 0) final storage keys)
       (sym (ap entryGood (sym here) ∙ bad))
       (record {
@@ -200,15 +202,24 @@ module _ (n : Numbers) (r storage keys : List ℕ) where
   unfolding runAs
   gives-refused number = record { answer = refl; description = refl; bytes = refl; marks = refl }
 
+  -- the table of the definition's run is that of its answer, in the storage that it leaves
+  run-sought : runOf n r storage keys .table ≡ answerSought (n .designation) (runOf n r storage keys .storage) (runOf n r storage keys .answer)
+  unfolding resultOf answerSought
+  run-sought =
+      runOf-cases n r storage keys (λ x. x .table ≡ answerSought (n .designation) (x .storage) (x .answer)) (λ number refused. refl) (λ accepted bad. refl)
+      (λ accepted good. refl)
+
   -- packed
   pub run-packed : (v : Verdict) → v ≡ runVerdict n r storage keys → (x : Answer) {final s k : List ℕ} → Gives (runAs n r storage keys v) x final s k
-      → (before : ℕ) {word after : ℕ} → word ≡ packedAnswer x → after ≡ placeAfterRun x before → RunGives n r storage keys before word final s k after
+      → (table : Sought) → table ≡ answerSought (n .designation) s x → (before : ℕ) {word after : ℕ} → word ≡ packedAnswer x table
+      → after ≡ placeAfterRun x table before → RunGives n r storage keys before word final s k after
   unfolding runOf
-  run-packed v same x {final} {s} {k} gives before word after =
+  run-packed v same x {final} {s} {k} gives table found before word after =
       let all : Gives (runAs n r storage keys (runVerdict n r storage keys)) x final s k = subst (λ v. Gives (runAs n r storage keys v) x final s k) same gives in
+      let sought : table ≡ runOf n r storage keys .table = found ∙ (λ i. answerSought (n .designation) (all .bytes i) (all .answer i)) ∙ sym run-sought in
       record {
-        answer = word ∙ ap packedAnswer (all .answer);
-        place = after ∙ ap (λ x. placeAfterRun x before) (all .answer);
+        answer = word ∙ (λ i. packedAnswer (all .answer i) (sought i));
+        place = after ∙ (λ i. placeAfterRun (all .answer i) (sought i) before);
         description = all .description;
         bytes = all .bytes;
         marks = all .marks;

@@ -4,12 +4,15 @@ use mathlib.Core.Path.{_≡_}
 use mathlib.Core.Bool.{true}
 use mathlib.Core.List.{List}
 use Rattle.machine.specs.declared.Answer.{Answer}
+use Rattle.machine.specs.declared.Answer.the-variants as answer
 use Rattle.machine.specs.declared.Guest.{Guest}
 use Rattle.machine.specs.declared.Numbers.{Numbers}
+use Rattle.machine.specs.declared.Sought.{Sought}
 use Rattle.machine.specs.declared.Verdict.the-variants.{Accepted}
 use Rattle.machine.specs.Record.{guestOf}
 use Rattle.machine.specs.Refusals.{runVerdict}
 use Rattle.machine.specs.Entry.{entryGood}
+use Rattle.machine.specs.Sought.{nowhere, endSought}
 use Rattle.machine.specs.Operations.{Result, runOf}
 use Rattle.packing.specs.Packing.{packedAnswer, placeAfterRun}
 
@@ -26,10 +29,15 @@ pub record Gives (result : Result) (a : Answer) (r storage keys : List ℕ) : Ty
   pub bytes : storage ≡ result .storage
   pub marks : keys ≡ result .keys
 
--- run, packed: answer and caller's place, record, storage and keys are those of the definition
+-- the table of an answer, in the storage that the run left
+unfoldable pub answerSought : ℕ → List ℕ → Answer → Sought
+answerSought designation storage (answer.Refused number) = nowhere
+answerSought designation storage (answer.Ended e units) = endSought designation storage e
+
+-- run, packed: answer with its table and caller's place, record, storage and keys are those of the definition
 pub record RunGives (n : Numbers) (r storage keys : List ℕ) (before x : ℕ) (r′ storage′ keys′ : List ℕ) (after : ℕ) : Type 0 where
-  pub answer : x ≡ packedAnswer (runOf n r storage keys .answer)
-  pub place : after ≡ placeAfterRun (runOf n r storage keys .answer) before
+  pub answer : x ≡ packedAnswer (runOf n r storage keys .answer) (runOf n r storage keys .table)
+  pub place : after ≡ placeAfterRun (runOf n r storage keys .answer) (runOf n r storage keys .table) before
   pub description : r′ ≡ runOf n r storage keys .description
   pub bytes : storage′ ≡ runOf n r storage keys .storage
   pub marks : keys′ ≡ runOf n r storage keys .keys

@@ -7,14 +7,16 @@ ghost use lib.ListN.{length};
 ghost use Rattle.machine.specs.Record.{requestOf, residueOf, withInterval};
 ghost use Rattle.machine.specs.Refusals.{translateVerdict, runVerdict};
 ghost use Rattle.machine.specs.Host.{host};
+ghost use Rattle.machine.specs.Sought.{endSought};
 ghost use Rattle.machine.specs.Operations.{check, translate, runAs};
 ghost use Rattle.packing.specs.Packing.{packedCheck, packedTranslation, placeAfter};
-ghost use Rattle.drevokas.specs.Giving.{Starts, Gives, RunGives};
+ghost use Rattle.drevokas.specs.Giving.{Starts, Gives, answerSought, RunGives};
 use machine::Answer;
 use machine::End;
 use machine::Guest;
 use machine::Numbers;
 use machine::Reason;
+use machine::Sought;
 use machine::Translated;
 use machine::Verdict;
 
@@ -181,6 +183,27 @@ fn run_as(r: &mut [u8], storage: &mut [u8], keys: &mut [u8], n: Numbers, v: Verd
     }
 }
 
+// By which table a run's host fault is, in the storage that the run left.
+fn table_of_end(storage: &[u8], designation: u32, end: End) -> Sought
+    ensures { λ x. ⌜ x ≡ endSought designation (now (storage .entry)) end ⌝ }
+{
+    match end {
+        End::Intercepted(_) => sought::nowhere(),
+        End::HostFault(f) => sought::fault_sought(storage, designation, f),
+        End::BudgetUsed => sought::nowhere(),
+    }
+}
+
+// By which table a run's answer is.
+fn table_of(storage: &[u8], designation: u32, a: Answer) -> Sought
+    ensures { λ x. ⌜ x ≡ answerSought designation (now (storage .entry)) a ⌝ }
+{
+    match a {
+        Answer::Refused(_) => sought::nowhere(),
+        Answer::Ended { end, units: _ } => table_of_end(storage, designation, end),
+    }
+}
+
 // Runs a guest for at most budget units: intercepted, a host fault, budget used, or refused.
 #[no_mangle]
 pub extern "C" fn drevokas_run(
@@ -204,6 +227,7 @@ pub extern "C" fn drevokas_run(
     };
     let v = refusals::run_verdict(n, r, storage, keys);
     let a = run_as(r, storage, keys, n, v);
-    *place = packing::place_after_run(a, *place);
-    packing::pack_answer(a)
+    let table = table_of(storage, designation, a);
+    *place = packing::place_after_run(a, table, *place);
+    packing::pack_answer(a, table)
 }

@@ -22,14 +22,16 @@ use Rattle.machine.specs.Entry.{extentFits, prefixFits, entryGood}
 use Rattle.machine.specs.Record.{versionFor, guestOf, pswOf, cpuOf}
 use Rattle.machine.specs.Refusals.{framesOf, wrongLength, wrongVersion, wrongStorage, wrongKeys, checkVerdict, translateVerdict}
 use Rattle.machine.specs.Psw.{pswBit, wrap}
-use Rattle.machine.specs.Host.{Host, backing}
-use Rattle.machine.specs.Addresses.{Access, reached, denied}
+use Rattle.machine.specs.Host.{Host, Located, backing, view}
+use Rattle.machine.specs.Addresses.{Access, reached, denied, access}
+use Rattle.machine.specs.Sought.{nowhere}
 use Rattle.machine.specs.Operations.{translates, addressIn, translatedTo, translatedAs, translate}
 use Rattle.machine.proofs.Laws.{good-length}
+use Rattle.machine.proofs.WhichTable.{reached-goes}
 use Rattle.machine.proofs.Verdicts.{accepted-test, length-of-right, keys-of-right}
 use Rattle.refusals.specs.Parts.{xaMode}
 use Rattle.refusals.proofs.Parts.{entry-xa, xa-mode, long-record}
-use Rattle.address.specs.Touching.{seen, placed, touchedBy}
+use Rattle.address.specs.Touching.{seen, placed, touchedBy, touchOf}
 use Rattle.inspect.specs.Answering.{answered}
 
 pub checked-length : (r : List ℕ) → checkVerdict r ≡ Accepted → 200 ≤ length r
@@ -72,14 +74,19 @@ pub translate-by : (r : List ℕ) (h : Host) (a kind : ℕ) {v : Verdict} → tr
 unfolding translate
 translate-by r h a kind is = rw is
 
-pub answered-is : (g : Guest) (h : Host) (x : Access) → translatedTo g h x ≡ answered (touchedBy g h x)
+pub answered-is : (g : Guest) (h : Host) (c : Cpu) (store : Bool) (a : ℕ)
+    → translatedTo g h c a (access g (view g h) c store a) ≡ answered g h c a (touchOf g h c store a)
 unfolding translatedTo touchedBy answered addressIn placed
-answered-is g h (denied f) = refl
-answered-is g h (reached l) = by-walk (backing g h (l .absolute))
+answered-is g h c store a = by-access (access g (view g h) c store a) refl
   where
-    by-walk : (w : Walk) → addressIn (l .absolute) w ≡ answered (placed (l .absolute) w)
-    by-walk (Failed f) = refl
-    by-walk (Page frame protected) = refl
+    by-walk : (l : Located) (w : Walk) → backing g h (l .absolute) ≡ w → access g (view g h) c store a ≡ reached l
+        → addressIn (l .absolute) w ≡ answered g h c a (placed (l .absolute) w)
+    by-walk l (Failed f) behind is = absurd (reached-goes g h c a store l f nowhere is (ap (addressIn (l .absolute)) behind))
+    by-walk l (Page frame protected) behind is = refl
+
+    by-access : (x : Access) → access g (view g h) c store a ≡ x → translatedTo g h c a x ≡ answered g h c a (touchedBy g h x)
+    by-access (denied f) is = refl
+    by-access (reached l) is = by-walk l (backing g h (l .absolute)) refl is
 
 -- the address wraps by the PSW alone
 pub wrapped-is : (c : Cpu) (psw : Psw) (a at : ℕ) → psw ≡ c .psw → ((k : Registers) → at ≡ wrap (seen psw k) a) → at ≡ wrap c a

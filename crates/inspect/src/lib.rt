@@ -1,21 +1,29 @@
 // The operations that change nothing: check a record, translate one guest address. Each contract equates the answer with machine's
 // Operations: check for every input, refused input too; translate once the input is accepted.
 ghost use mathlib.Core.Path.{_≡_};
-ghost use mathlib.Core.Bool.{true};
+ghost use mathlib.Core.Bool.{Bool, true};
+ghost use mathlib.Core.List.{List};
+ghost use Prim.Native.Nat.{ℕ, _≤_};
 ghost use Rattle.machine.specs.Record.{guestOf};
 ghost use Rattle.machine.specs.Refusals.{checkVerdict, translateVerdict};
 ghost use Rattle.machine.specs.Host.{host};
 ghost use Rattle.machine.specs.declared.Cpu.{Cpu};
+ghost use Rattle.machine.specs.declared.Guest.{Guest};
 ghost use Rattle.machine.specs.Operations.{checkedAs, check, translates, translatedAs};
 ghost use Rattle.refusals.specs.Parts.{xaMode};
+ghost use Rattle.address.specs.Touching.{touchOf};
+ghost use Rattle.address.specs.Locating.{Sees, Fits, placeIn};
 ghost use Rattle.inspect.specs.Answering.{answered};
-use address::Place;
+use address::Space;
 use machine::Checked;
 use machine::Psw;
 use machine::Translated;
 use machine::Verdict;
 
 const STORE: u32 = 1;
+
+// Numbers from here on say a failure.
+const STOPPED: u64 = 4294967296;
 
 const LONG_RECORD: usize = 208;
 
@@ -43,13 +51,16 @@ pub fn check(r: &[u8]) -> Checked
     checked_as(r, refusals::check_verdict(r))
 }
 
-// The answer for a byte that was looked for.
-fn answer(x: Place) -> Translated
-    ensures { λ t. ⌜ t ≡ answered x ⌝ }
+// The answer for a byte that was looked for in vain, which a number says: the tables are walked again for the one that was bad.
+fn failed(storage: &[u8], space: Space, a: u32, w: u64) -> Translated
+    requires { ⌜ Fits space × (4294967296 ≤ w) ⌝ }
+    ensures { λ t. ⌜ ((g : Guest) (c : Cpu) → Sees space g c → (k : List ℕ) (store : Bool)
+        → touchOf g (host (space .designation) (now (storage .entry)) k) c store a ≡ placeIn a w
+        → t ≡ answered g (host (space .designation) (now (storage .entry)) k) c a (placeIn a w)) ⌝ }
 {
-    match x {
-        Place::At(a) => Translated::Address(a),
-        Place::Denied(f) => Translated::Failed(f),
+    Translated::Failed {
+        failure: address::failure_of(a, w),
+        sought: sought::sought(storage, space, a, w),
     }
 }
 
@@ -86,10 +97,13 @@ pub fn translate_xa(
     let control = records::table_controls(r);
     let cr0 = control.words[0];
     let cr1 = control.words[1];
-    let space = address::space_of(guest, psw, cr0, cr1);
+    let space = address::space_of(guest, psw, cr0, cr1, designation);
     let at = address::wrapped(psw, a);
-    let found = address::locate(storage, keys, designation, space, kind == STORE, at);
-    answer(address::place_of(at, found))
+    let found = address::locate(storage, keys, space, kind == STORE, at);
+    if found < STOPPED {
+        return Translated::Address(found as u32);
+    }
+    failed(storage, space, at, found)
 }
 
 // translate of any other guest, once the input is accepted: entry looks at its mode, and its PSW may have DAT on.
@@ -115,8 +129,11 @@ pub fn translate_other(
     let control = records::table_controls(r);
     let cr0 = control.words[0];
     let cr1 = control.words[1];
-    let space = address::space_of(guest, psw, cr0, cr1);
+    let space = address::space_of(guest, psw, cr0, cr1, designation);
     let at = address::wrapped(psw, a);
-    let found = address::locate(storage, keys, designation, space, kind == STORE, at);
-    answer(address::place_of(at, found))
+    let found = address::locate(storage, keys, space, kind == STORE, at);
+    if found < STOPPED {
+        return Translated::Address(found as u32);
+    }
+    failed(storage, space, at, found)
 }

@@ -94,7 +94,7 @@ good-input-is-accepted = record {
 
 -- with a stop request the first unit is an exit
 stopped-at-once : (b : ℕ) (n : Numbers) (m : Machine) → 0 < b → stopRequested (guestOf (m .description)) ≡ true
-    → (resultOf (run b n m)) .answer ≡ Ended (Intercepted Stop) 0
+    → (resultOf n (run b n m)) .answer ≡ Ended (Intercepted Stop) 0
 unfolding resultOf run step stepOf onward unitFrom unit
 stopped-at-once zero n m some stop = absurd (omega arith)
 stopped-at-once (suc b) n m some stop = rw stop

@@ -1,9 +1,11 @@
--- What a unit does through the view: it completes with places where something stands, and faults by the host alone.
+-- What a unit does through the view: it completes with places where something stands, and faults by the host alone, with protection or for
+-- an address of the extent.
 use Prim.Native.Nat.{ℕ, zero, suc, _+_, _*_, _/_, _%_, _≤_, _<_}
 use native.Mathlib.Omega.{arith}
-use mathlib.Core.Path.{_≡_, refl, ap, _∙_, subst}
-use mathlib.Core.Bool.{Bool, true, false, cond, _&&_, false≢true}
+use mathlib.Core.Path.{_≡_, refl, sym, ap, _∙_, subst}
+use mathlib.Core.Bool.{Bool, true, false, _&&_, false≢true}
 use mathlib.Core.List.{List, [], _∷_, _++_}
+use mathlib.Core.Logic.{inl, inr}
 use borrow.Author.Tests.{eq-eqb, lt-ltb}
 use lib.Dec.{eqb, ltb}
 use lib.ListN.{length}
@@ -17,6 +19,7 @@ use Rattle.machine.specs.declared.Guest.{Guest}
 use Rattle.machine.specs.declared.Numbers.{Numbers}
 use Rattle.machine.specs.declared.Opcode.{Opcode}
 use Rattle.machine.specs.declared.Reason.{Reason}
+use Rattle.machine.specs.declared.TableEntry.the-variants.{Unread}
 use Rattle.machine.specs.declared.Text.{Text}
 use Rattle.machine.specs.declared.Walk.{Walk}
 use Rattle.machine.specs.declared.Walk.the-variants.{Page, Failed}
@@ -24,11 +27,11 @@ use Rattle.machine.specs.Record.{guestOf}
 use Rattle.machine.specs.Sizes.{pageBytes}
 use Rattle.machine.specs.Entry.{extentBytes, entryGood}
 use Rattle.machine.specs.Interval.{wordPlace}
-use Rattle.machine.specs.Psw.{basicControl, instructionAddress}
-use Rattle.machine.specs.Failures.{protection, isTranslation, hostFault, exceptionOf}
-use Rattle.machine.specs.Walk.{walk, walkSegment, walkPage}
+use Rattle.machine.specs.Psw.{basicControl, control, instructionAddress}
+use Rattle.machine.specs.Failures.{protection, addressing, translationSpecification, isTranslation, hostFault, exceptionOf, walkException}
+use Rattle.machine.specs.Walk.{walk}
 use Rattle.machine.specs.Host.{Host, Cell, absent, present, Located, places, hostVirtual, hostEntry, inStorage, hostPage, backing, cellOf, view}
-use Rattle.machine.specs.Addresses.{prefixed, realPage, Access, reached, denied, settle, realAccess, inPage, lowProtected, access, Accesses, all, stopped, andThen, accesses, upFrom, whenReached}
+use Rattle.machine.specs.Addresses.{prefixed, entryOf, guestEntry, realPage, Access, reached, denied, settle, realAccess, inPage, lowProtected, access, Accesses, all, stopped, andThen, accesses, upFrom, whenReached}
 use Rattle.machine.specs.Outcomes.{Effects, Outcome, completed, intercepted, faulted, Progress}
 use Rattle.machine.specs.Interruptions.{withBytes, Areas, programAreas, codeFields, fieldsBeside, interrupt, afterException, programFields, exception}
 use Rattle.machine.specs.Execute.{immediate, next, finish, fetching, storing, summed, branch, execute, loadRegister, add, subtract, branchRegister, branchIndexed, supervisorCall, loadAddress, store, load, loadPsw, storeControl, loadControl, storeClock, setTimer, storeTimer, interceptInstruction}
@@ -40,7 +43,8 @@ use Rattle.machine.proofs.Tests.{on-either-arm, by-test}
 use Rattle.machine.proofs.Laws.{guest-of-withCpu, guest-of-withResults, guest-of-withRequest, guest-of-withInterval}
 use Rattle.machine.proofs.Runs.{exit-keeps, step-cases, left-by, step-keeps, runOf-cases}
 use Rattle.machine.proofs.Entry.{entry-placed}
-use Rattle.machine.proofs.Backing.{read-or-not}
+use Rattle.machine.proofs.Ways.{GoodWalk, finds, fails, walk-good}
+use Rattle.machine.proofs.Backing.{page-in-extent, read-or-not, OfExtent}
 
 each-append : {P : ℕ → Type 0} {l m : List ℕ} → Each P l → Each P m → Each P (l ++ m)
 each-append none h = h
@@ -68,147 +72,183 @@ beside-short : (c : Cpu) (fields : List ℕ) (most : ℕ) → length fields ≤ 
 unfolding fieldsBeside
 beside-short c fields most short = on-either-arm (λ (l : List ℕ). length l ≤ most) (basicControl c) (omega arith) short
 
-module _ (g : Guest) (v : ℕ → Cell) (H : Failure → Type 0) (of-host : (f : Failure) → f .host ≡ true → H f)
-    (covered : (i : ℕ) (f : Failure) → i < pageBytes → v (g .prefix * pageBytes + i) ≡ absent f → H f) where
-  -- something stands at a guest absolute address
-  record Stands (a : ℕ) : Type 0 where
-    byte : ℕ
-    key : ℕ
-    protected : Bool
-    cell : v a ≡ present byte key protected
+-- something stands at a guest absolute address
+pub record Stands (v : ℕ → Cell) (a : ℕ) : Type 0 where
+  pub byte : ℕ
+  pub key : ℕ
+  pub protected : Bool
+  pub cell : v a ≡ present byte key protected
 
-  -- an access that reaches a place where something stands, or fails so
-  data Good (Q : Failure → Type 0) : Access → Type 0 where
-    reaches : {l : Located} → Stands (l .absolute) → Good Q (reached l)
-    denies : {f : Failure} → Q f → Good Q (denied f)
+-- an access that reaches a place where something stands, or fails so
+pub data Good (v : ℕ → Cell) (Q : Failure → Type 0) : Access → Type 0 where
+  reaches : {l : Located} → Stands v (l .absolute) → Good v Q (reached l)
+  denies : {f : Failure} → Q f → Good v Q (denied f)
 
-  data GoodAll (Q : Failure → Type 0) : Accesses → Type 0 where
-    reachesAll : {ls : List Located} → Each Stands (places ls) → GoodAll Q (all ls)
-    stops : {f : Failure} → Q f → GoodAll Q (stopped f)
+data GoodAll (v : ℕ → Cell) (Q : Failure → Type 0) : Accesses → Type 0 where
+  reachesAll : {ls : List Located} → Each (Stands v) (places ls) → GoodAll v Q (all ls)
+  stops : {f : Failure} → Q f → GoodAll v Q (stopped f)
 
-  settle-good : (Q : Failure → Type 0) (store : Bool) (protects : ℕ → Bool) (a : ℕ) → ((f : Failure) → v a ≡ absent f → Q f)
-      → ((key : ℕ) → protects key ≡ true → Q (exceptionOf protection)) → ((at : ℕ) → Q (hostFault at protection))
-      → Good Q (settle g store protects a (v a))
-  unfolding settle
-  settle-good Q store protects a lacks guards hosts = by-cell (v a) refl
+-- a unit that completes with places where something stands, or ends without, a host fault being so
+data Sound (v : ℕ → Cell) (H : Failure → Type 0) : Outcome → Type 0 where
+  completes : {c : Cpu} {e : Effects} → Each (Stands v) (e .fetched) → Each (Stands v) (places (e .stores)) → Sound v H (completed c e)
+  exits : {r : Reason} {c : Cpu} → Sound v H (intercepted r c)
+  faults : {f : Failure} → H f → Sound v H (faulted f)
+
+-- the last tests of a byte
+pub settle-good : (g : Guest) (v : ℕ → Cell) (Q : Failure → Type 0) (store : Bool) (protects : ℕ → Bool) (a : ℕ)
+    → ((f : Failure) → v a ≡ absent f → Q f) → ((key : ℕ) → protects key ≡ true → Q (exceptionOf protection))
+    → Q (hostFault (hostVirtual g a) protection) → Good v Q (settle g store protects a (v a))
+unfolding settle
+settle-good g v Q store protects a lacks guards hosts = by-cell (v a) refl
+  where
+    by-cell : (cell : Cell) → v a ≡ cell → Good v Q (settle g store protects a cell)
+    by-cell (absent f) e = denies (lacks f e)
+    by-cell (present byte key protected) e =
+        by-test (Good v Q) (protects key) (λ h. denies (guards key h))
+        (on-either-arm (Good v Q) (store && protected) (denies hosts)
+        (reaches (record { byte = byte; key = key; protected = protected; cell = e })))
+
+-- a guest table entry that cannot be read is one that the view lacks
+pub entry-lacks : (g : Guest) (v : ℕ → Cell) (real : ℕ) (f : Failure) → guestEntry g v real ≡ Unread f → v (prefixed g real) ≡ absent f
+unfolding guestEntry entryOf
+entry-lacks g v real f is = by-cell (v (prefixed g real)) is
+  where
+    by-cell : (cell : Cell) → entryOf v (prefixed g real) cell ≡ Unread f → cell ≡ absent f
+    by-cell (absent f′) e = cc
+    by-cell (present byte key protected) e = let z : _≡_ {A = ℕ} 0 1 = cc in absurd (omega arith)
+
+pub exception-of-guest : (a code : ℕ) → (walkException a code) .host ≡ false
+unfolding walkException
+exception-of-guest a code = refl
+
+-- what holds of each host fault of a view, protection among them; what the prefix page lacks, it lacks by a host fault
+record Faults (g : Guest) (v : ℕ → Cell) (H : Failure → Type 0) : Type 0 where
+  lacking : (a : ℕ) (f : Failure) → v a ≡ absent f → f .host ≡ true → H f
+  guarded : (a : ℕ) → H (hostFault a protection)
+  covered : (i : ℕ) (f : Failure) → i < pageBytes → v (g .prefix * pageBytes + i) ≡ absent f → H f
+
+module _ (g : Guest) (v : ℕ → Cell) (H : Failure → Type 0) (so : Faults g v H) where
+  -- a failure of the guest, or a host fault that is so
+  abbrev FaultIs : Failure → Type 0
+  FaultIs f = f .host ≡ true → H f
+
+  of-guest : (f : Failure) → f .host ≡ false → FaultIs f
+  of-guest f guest host = absurd (false≢true (sym guest ∙ host))
+
+  realPage-good : (c : Cpu) (a : ℕ) → GoodWalk FaultIs (realPage g v c a)
+  unfolding realPage
+  realPage-good c a = search (on-either-arm (GoodWalk FaultIs), finds, no-format, walks)
     where
-      by-cell : (cell : Cell) → v a ≡ cell → Good Q (settle g store protects a cell)
-      by-cell (absent f) e = denies (lacks f e)
-      by-cell (present byte key protected) e = by-key (protects key) refl
-        where
-          by-key : (b : Bool) → protects key ≡ b
-              → Good Q (cond b (denied (exceptionOf protection)) (cond (store && protected) (denied (hostFault (hostVirtual g a) protection)) (reached (record { absolute = a; byte = byte }))))
-          by-key true h = denies (guards key h)
-          by-key false h =
-              on-either-arm (Good Q) (store && protected) (denies (hosts _)) (reaches (record { byte = byte; key = key; protected = protected; cell = e }))
+      no-format : GoodWalk FaultIs (Failed (exceptionOf translationSpecification))
+      no-format = fails (of-guest _ refl)
 
-  -- any failure will do
-  abbrev Any : Failure → Type 0
-  Any f = Unit
+      walks : GoodWalk FaultIs (walk (guestEntry g v) (walkException a) (control c 1) a)
+      walks =
+          walk-good FaultIs (guestEntry g v) (walkException a) (control c 1) a (λ code. of-guest _ (exception-of-guest a code))
+          (λ at f is. so .lacking _ f (entry-lacks g v at f is))
 
-  access-good : (c : Cpu) (store : Bool) (a : ℕ) → Good Any (access g v c store a)
+  access-good : (c : Cpu) (store : Bool) (a : ℕ) → Good v FaultIs (access g v c store a)
   unfolding access inPage
-  access-good c store a = on-either-arm (Good Any) (store && lowProtected c a) (denies tt) (by-walk (realPage g v c a))
+  access-good c store a =
+      on-either-arm (Good v FaultIs) (store && lowProtected c a) (denies (of-guest _ refl)) (by-walk (realPage-good c a))
     where
-      by-walk : (w : Walk) → Good Any (inPage g v c store a w)
-      by-walk (Failed f) = denies tt
-      by-walk (Page frame protected) = settle-good Any store _ _ (λ f e. tt) (λ key e. tt) (λ at. tt)
+      by-walk : {w : Walk} → GoodWalk FaultIs w → Good v FaultIs (inPage g v c store a w)
+      by-walk (fails h) = denies h
+      by-walk finds = settle-good g v FaultIs store _ _ (so .lacking _) (λ key e. of-guest _ refl) (λ host. so .guarded _)
 
   -- a byte of the prefix page fails by the host alone
-  real-good : (store : Bool) (real : ℕ) → real < pageBytes → Good H (realAccess g v store real)
+  real-good : (store : Bool) (real : ℕ) → real < pageBytes → Good v H (realAccess g v store real)
   unfolding realAccess prefixed
-  real-good store real low = rw (eq-eqb (real / pageBytes) 0 (omega arith)) (settle-good H store _ _ (λ f e. covered (real % pageBytes) f (omega arith) e) (λ key e. absurd (false≢true e)) (λ at. of-host _ refl))
+  real-good store real low = rw (eq-eqb (real / pageBytes) 0 (omega arith)) (settle-good g v H store _ _ (λ f e. so .covered (real % pageBytes) f (omega arith) e) (λ key e. absurd (false≢true e)) (so .guarded _))
 
-  accesses-good : {Q : Failure → Type 0} (one : ℕ → Access) {l : List ℕ} → Each (λ a. Good Q (one a)) l → GoodAll Q (accesses one l)
+  accesses-good : {Q : Failure → Type 0} (one : ℕ → Access) {l : List ℕ} → Each (λ a. Good v Q (one a)) l → GoodAll v Q (accesses one l)
   unfolding accesses andThen
   accesses-good one none = reachesAll none
   accesses-good one (more p e) = both p (accesses-good one e)
     where
-      both : {Q : Failure → Type 0} {x : Access} {y : Accesses} → Good Q x → GoodAll Q y → GoodAll Q (andThen x y)
+      both : {Q : Failure → Type 0} {x : Access} {y : Accesses} → Good v Q x → GoodAll v Q y → GoodAll v Q (andThen x y)
       both (denies q) h = stops q
       both (reaches s) (stops q) = stops q
       both (reaches s) (reachesAll e) = reachesAll (more s e)
 
-  all-access-good : (c : Cpu) (store : Bool) (l : List ℕ) → GoodAll Any (accesses (access g v c store) l)
+  all-access-good : (c : Cpu) (store : Bool) (l : List ℕ) → GoodAll v FaultIs (accesses (access g v c store) l)
   all-access-good c store l = accesses-good _ (each l)
     where
-      each : (l : List ℕ) → Each (λ a. Good Any (access g v c store a)) l
+      each : (l : List ℕ) → Each (λ a. Good v FaultIs (access g v c store a)) l
       each [] = none
       each (a ∷ l) = more (access-good c store a) (each l)
 
-  all-real-good : (store : Bool) {l : List ℕ} → Each (λ i. i < pageBytes) l → GoodAll H (accesses (realAccess g v store) l)
+  all-real-good : (store : Bool) {l : List ℕ} → Each (λ i. i < pageBytes) l → GoodAll v H (accesses (realAccess g v store) l)
   all-real-good store h = accesses-good _ (each h)
     where
-      each : {l : List ℕ} → Each (λ i. i < pageBytes) l → Each (λ a. Good H (realAccess g v store a)) l
+      each : {l : List ℕ} → Each (λ i. i < pageBytes) l → Each (λ a. Good v H (realAccess g v store a)) l
       each none = none
       each (more p e) = more (real-good store _ p) (each e)
 
   -- what holds where bytes are not reached, and where they are, holds of `whenReached`
-  when-good : (P : Outcome → Type 0) {Q : Failure → Type 0} {a : Accesses} {otherwise : Failure → Outcome} {onward : List Located → Outcome} → GoodAll Q a
-      → ((f : Failure) → Q f → P (otherwise f)) → ((ls : List Located) → Each Stands (places ls) → P (onward ls)) → P (whenReached a otherwise onward)
+  when-good : (P : Outcome → Type 0) {Q : Failure → Type 0} {a : Accesses} {otherwise : Failure → Outcome} {onward : List Located → Outcome} → GoodAll v Q a
+      → ((f : Failure) → Q f → P (otherwise f)) → ((ls : List Located) → Each (Stands v) (places ls) → P (onward ls)) → P (whenReached a otherwise onward)
   unfolding whenReached
   when-good P (stops q) p r = p _ q
   when-good P (reachesAll e) p r = r _ e
-
-  -- a unit that completes with places where something stands, or ends without
-  data Sound : Outcome → Type 0 where
-    completes : {c : Cpu} {e : Effects} → Each Stands (e .fetched) → Each Stands (places (e .stores)) → Sound (completed c e)
-    exits : {r : Reason} {c : Cpu} → Sound (intercepted r c)
-    faults : {f : Failure} → H f → Sound (faulted f)
 
   -- a unit in progress of this guest, whose text was fetched from places where something stands
   record Fetched (x : Progress) : Type 0 where
     guest : x .guest ≡ g
     view : x .view ≡ v
-    text : Each Stands (x .fetched)
+    text : Each (Stands v) (x .fetched)
 
   module _ (x : Progress) (started : Fetched x) where
     interrupt-sound : (c : Cpu) (areas : Areas) (code : ℕ) (fields : List ℕ) → areas .old + 8 ≤ pageBytes
         → areas .code + length fields ≤ pageBytes
-        → areas .new + 8 ≤ pageBytes → Sound (interrupt x c areas code fields)
+        → areas .new + 8 ≤ pageBytes → Sound v H (interrupt x c areas code fields)
     unfolding interrupt
     interrupt-sound c areas code fields old beside new =
         rw (started .guest, started .view)
-        (when-good Sound (all-real-good true (each-append (each-upFrom _ _ _ old) (each-upFrom _ _ _ beside))) (λ f. faults) λ stores s.
-        when-good Sound (all-real-good false (each-upFrom _ _ _ new)) (λ f. faults) λ fetched t.
+        (when-good (Sound v H) (all-real-good true (each-append (each-upFrom _ _ _ old) (each-upFrom _ _ _ beside))) (λ f. faults) λ stores s.
+        when-good (Sound v H) (all-real-good false (each-upFrom _ _ _ new)) (λ f. faults) λ fetched t.
         completes (each-append (started .text) t) (each-withBytes stores _ s))
 
-    exception-sound : (c : Cpu) (f : Failure) → Sound (exception x c f)
+    failure-sound : (c : Cpu) (f : Failure) → FaultIs f → Sound v H (exception x c f)
     unfolding exception
-    exception-sound c f = search (by-test Sound, on-either-arm Sound, faults, of-host f, exits, interrupted)
+    failure-sound c f is = search (by-test (Sound v H), on-either-arm (Sound v H), faults, is, exits, interrupted)
       where
         after : Cpu
         after = afterException x c f
 
-        interrupted : Sound (interrupt x after programAreas (f .code) (fieldsBeside after (programFields x f)))
+        interrupted : Sound v H (interrupt x after programAreas (f .code) (fieldsBeside after (programFields x f)))
         interrupted =
             interrupt-sound _ programAreas _ _ (omega arith)
             (omega (arith, beside-short after (programFields x f) 8 (fields-short x f))) (omega arith)
 
-    operand-sound : (store : Bool) (l : List ℕ) {onward : List Located → Outcome} → ((ls : List Located) → Each Stands (places ls) → Sound (onward ls))
-        → Sound (whenReached (accesses (access (x .guest) (x .view) (x .cpu) store) l) (exception x (x .cpu)) onward)
-    operand-sound store l after = when-good Sound good (λ f q. exception-sound (x .cpu) f) after
+    -- a program exception that is no access's
+    exception-sound : (c : Cpu) (code : ℕ) → Sound v H (exception x c (exceptionOf code))
+    exception-sound c code = failure-sound c _ (of-guest _ refl)
+
+    operand-sound : (store : Bool) (l : List ℕ) {onward : List Located → Outcome} → ((ls : List Located) → Each (Stands v) (places ls) → Sound v H (onward ls))
+        → Sound v H (whenReached (accesses (access (x .guest) (x .view) (x .cpu) store) l) (exception x (x .cpu)) onward)
+    operand-sound store l after = when-good (Sound v H) good (failure-sound (x .cpu)) after
       where
-        good : GoodAll Any (accesses (access (x .guest) (x .view) (x .cpu) store) l)
+        good : GoodAll v FaultIs (accesses (access (x .guest) (x .view) (x .cpu) store) l)
         good = rw (started .guest, started .view) (all-access-good (x .cpu) store l)
 
-    fetching-sound : (a n : ℕ) (after : List ℕ → Cpu) → Sound (fetching x a n after)
+    fetching-sound : (a n : ℕ) (after : List ℕ → Cpu) → Sound v H (fetching x a n after)
     unfolding fetching finish
     fetching-sound a n after = operand-sound false _ λ operand s. completes (each-append (started .text) s) none
 
-    storing-sound : (a : ℕ) (bytes : List ℕ) (c : Cpu) → Sound (storing x a bytes c)
+    storing-sound : (a : ℕ) (bytes : List ℕ) (c : Cpu) → Sound v H (storing x a bytes c)
     unfolding storing finish
     storing-sound a bytes c = operand-sound true _ λ operand s. completes (each-append (started .text) none) (each-withBytes operand bytes s)
 
-    finish-sound : (c : Cpu) → Sound (finish x c [] [])
+    finish-sound : (c : Cpu) → Sound v H (finish x c [] [])
     unfolding finish
     finish-sound c = completes (each-append (started .text) none) none
 
-    summed-sound : (sum : ℕ) (overflow : Bool) → Sound (summed x sum overflow)
+    summed-sound : (sum : ℕ) (overflow : Bool) → Sound v H (summed x sum overflow)
     unfolding summed
-    summed-sound sum overflow = search (on-either-arm Sound, exception-sound, finish-sound)
+    summed-sound sum overflow = search (on-either-arm (Sound v H), exception-sound, finish-sound)
 
-    execute-sound : (class : Class) → Sound (execute class x)
+    execute-sound : (class : Class) → Sound v H (execute class x)
     unfolding execute loadRegister add subtract branchRegister branchIndexed branch supervisorCall loadAddress store load loadPsw
         storeControl loadControl storeClock setTimer storeTimer interceptInstruction
     execute-sound Lr = finish-sound _
@@ -231,167 +271,172 @@ module _ (g : Guest) (v : ℕ → Cell) (H : Failure → Type 0) (of-host : (f :
     execute-sound Mandatory = exits
     execute-sound Unassigned = exception-sound _ _
 
-    decoded-sound : (o : Opcode) → Sound (decoded x o)
+    decoded-sound : (o : Opcode) → Sound v H (decoded x o)
     unfolding decoded interceptInstruction
-    decoded-sound o = search (on-either-arm Sound, exits, exception-sound, execute-sound (o .class))
+    decoded-sound o = search (on-either-arm (Sound v H), exits, exception-sound, execute-sound (o .class))
 
     -- with more of the text
-    reading-fetched : (t : Text) (ls : List Located) → Each Stands (places ls) → Fetched (reading x t ls)
+    reading-fetched : (t : Text) (ls : List Located) → Each (Stands v) (places ls) → Fetched (reading x t ls)
     unfolding reading
     reading-fetched t ls s = record { guest = started .guest; view = started .view; text = each-append (started .text) s }
 
-  fetchThird-sound : (x : Progress) → Fetched x → Sound (fetchThird x)
+  fetchThird-sound : (x : Progress) → Fetched x → Sound v H (fetchThird x)
   unfolding fetchThird halfword
   fetchThird-sound x h =
-      on-either-arm Sound (ltb (x .text .ilc) 3) (decoded-sound x h _) (operand-sound x h false _ λ third s. decoded-sound _ (reading-fetched x h _ third s) _)
+      on-either-arm (Sound v H) (ltb (x .text .ilc) 3) (decoded-sound x h _) (operand-sound x h false _ λ third s. decoded-sound _ (reading-fetched x h _ third s) _)
 
-  fetchSecond-sound : (x : Progress) → Fetched x → Sound (fetchSecond x)
+  fetchSecond-sound : (x : Progress) → Fetched x → Sound v H (fetchSecond x)
   unfolding fetchSecond halfword
   fetchSecond-sound x h =
-      on-either-arm Sound (ltb (x .text .ilc) 2) (decoded-sound x h _) (operand-sound x h false _ λ second s. fetchThird-sound _ (reading-fetched x h _ second s))
+      on-either-arm (Sound v H) (ltb (x .text .ilc) 2) (decoded-sound x h _) (operand-sound x h false _ λ second s. fetchThird-sound _ (reading-fetched x h _ second s))
 
-  instruction-sound : (x : Progress) → Fetched x → Sound (instruction x)
+  instruction-sound : (x : Progress) → Fetched x → Sound v H (instruction x)
   unfolding instruction halfword
   instruction-sound x h =
-      on-either-arm Sound (eqb (instructionAddress (x .cpu) % 2) 1) (exception-sound x h _ _)
+      on-either-arm (Sound v H) (eqb (instructionAddress (x .cpu) % 2) 1) (exception-sound x h _ _)
       (operand-sound x h false _ λ first s. fetchSecond-sound _ (reading-fetched x h _ first s))
 
-  unit-sound : (clock : ℕ) (requested : Bool) (c : Cpu) → Sound (unit g clock requested v c)
+  unit-sound : (clock : ℕ) (requested : Bool) (c : Cpu) → Sound v H (unit g clock requested v c)
   unfolding unit
   unit-sound clock requested c =
-      search (on-either-arm Sound, exits, exception-sound (started g clock v c 0) (fresh 0), instructed) depth 10
+      search (on-either-arm (Sound v H), exits, exception-sound (started g clock v c 0) (fresh 0), instructed) depth 10
     where
       fresh : (ilc : ℕ) → Fetched (started g clock v c ilc)
       fresh ilc = record { guest = refl; view = refl; text = none }
 
-      instructed : Sound (instruction (started g clock v c 1))
+      instructed : Sound v H (instruction (started g clock v c 1))
       instructed = instruction-sound (started g clock v c 1) (fresh 1)
 
--- a host walk fails by a host fault alone
-data OfHost : Walk → Type 0 where
-  finds : {frame : ℕ} {protected : Bool} → OfHost (Page frame protected)
-  fails : {f : Failure} → f .host ≡ true → OfHost (Failed f)
+-- a host walk fails by a host fault of its own address alone
+abbrev OfAddress : ℕ → Failure → Type 0
+OfAddress v f = (f .host ≡ true) × (f .address ≡ v)
 
-walk-of-host : (s : List ℕ) (d v : ℕ) → OfHost (walk (hostEntry s v) (hostFault v) d v)
-unfolding walk walkSegment walkPage
-walk-of-host s d v = search (on-either-arm OfHost, segment-read, failed)
-  where
-    failed : {code : ℕ} → OfHost (Failed (hostFault v code))
-    failed = fails refl
+entry-of-host : (s : List ℕ) (v at : ℕ) (f : Failure) → hostEntry s v at ≡ Unread f → OfAddress v f
+entry-of-host s v at f =
+    read-or-not (λ x. x ≡ Unread f → OfAddress v f) s v at (λ fits e. let z : _≡_ {A = ℕ} 0 1 = cc in absurd (omega arith))
+    (λ past e. let is : hostFault v addressing ≡ f = cc in subst (OfAddress v) is (refl, refl))
 
-    page-read : (at : ℕ) → OfHost (walkPage (hostFault v) (hostEntry s v at))
-    page-read at = read-or-not (λ x. OfHost (walkPage (hostFault v) x)) s v at (λ fits. search (on-either-arm OfHost, failed, finds)) failed
-
-    segment-read : (index at : ℕ) → OfHost (walkSegment (hostEntry s v) (hostFault v) index (hostEntry s v at))
-    segment-read index at =
-        read-or-not (λ x. OfHost (walkSegment (hostEntry s v) (hostFault v) index x)) s v at (λ fits. search (on-either-arm OfHost, failed, page-read)) failed
-
-host-page-of-host : (h : Host) (a : ℕ) → OfHost (hostPage h a)
+host-page-of-host : (h : Host) (v : ℕ) → GoodWalk (OfAddress v) (hostPage h v)
 unfolding hostPage inStorage
-host-page-of-host h a = by-walk (walk-of-host (h .storage) (h .designation) a)
+host-page-of-host h v =
+    by-walk
+    (walk-good (OfAddress v) (hostEntry (h .storage) v) (hostFault v) (h .designation) v (λ code. (refl, refl)) (entry-of-host (h .storage) v))
   where
-    by-walk : {w : Walk} → OfHost w → OfHost (inStorage (h .storage) a w)
+    by-walk : {w : Walk} → GoodWalk (OfAddress v) w → GoodWalk (OfAddress v) (inStorage (h .storage) v w)
     by-walk (fails e) = fails e
-    by-walk finds = search (on-either-arm OfHost, finds, fails)
+    by-walk finds = search (on-either-arm (GoodWalk (OfAddress v)), finds, fails)
+
+-- a host fault, by protection or by an address of the extent
+pub record HostsOwn (g : Guest) (f : Failure) : Type 0 where
+  pub host : f .host ≡ true
+  pub place : OfExtent g f
 
 module _ (g : Guest) (h : Host) where
   -- where something stands there is a host page
-  stands-on-page : (H : Failure → Type 0) (of-host : (f : Failure) → f .host ≡ true → H f)
-      (covered : (i : ℕ) (f : Failure) → i < pageBytes → view g h (g .prefix * pageBytes + i) ≡ absent f → H f) (a : ℕ)
-      → Stands g (view g h) H of-host covered a → HasPage (backing g h) a
+  pub stands-on-page : (a : ℕ) → Stands (view g h) a → HasPage (backing g h) a
   unfolding view cellOf
-  stands-on-page H of-host covered a s = by-walk (backing g h a) refl (s .cell)
+  stands-on-page a s = by-walk (backing g h a) refl (s .cell)
     where
       by-walk : (w : Walk) → backing g h a ≡ w → cellOf h a w ≡ present (s .byte) (s .key) (s .protected) → HasPage (backing g h) a
       by-walk (Failed f) e cell = let z : _≡_ {A = ℕ} 0 1 = cc in absurd (omega arith)
       by-walk (Page frame protected) e cell = record { frame = frame; protected = protected; page = e }
 
-  -- the prefix page lies below the extent
-  prefix-of-host : entryGood g ≡ true → (i : ℕ) (f : Failure) → i < pageBytes → view g h (g .prefix * pageBytes + i) ≡ absent f → f .host ≡ true
+  -- what the view lacks below the extent, it lacks by a host fault of the address
+  lacks-below : (a : ℕ) (f : Failure) → ltb a (extentBytes g) ≡ true → view g h a ≡ absent f → OfAddress (hostVirtual g a) f
   unfolding view cellOf backing
-  prefix-of-host good i f low e = by-walk (host-page-of-host h (hostVirtual g (g .prefix * pageBytes + i))) (rw below at e)
+  lacks-below a f below e = by-walk (host-page-of-host h (hostVirtual g a)) (rw below at e)
     where
-      below : ltb (g .prefix * pageBytes + i) (extentBytes g) ≡ true
-      below = lt-ltb (g .prefix * pageBytes + i) (extentBytes g) (omega (arith, entry-placed g good .prefixed))
-
-      by-walk : {w : Walk} → OfHost w → cellOf h (g .prefix * pageBytes + i) w ≡ absent f → f .host ≡ true
-      by-walk (fails true-host) same = cc
+      by-walk : {w : Walk} → GoodWalk (OfAddress (hostVirtual g a)) w → cellOf h a w ≡ absent f → OfAddress (hostVirtual g a) f
+      by-walk (fails {f = f′} own) same = let is : f′ ≡ f = cc in subst (OfAddress (hostVirtual g a)) is own
       by-walk finds same = let z : _≡_ {A = ℕ} 0 1 = cc in absurd (omega arith)
+
+  -- and what it lacks by a host fault lies there
+  pub lacks-by-host : (a : ℕ) (f : Failure) → view g h a ≡ absent f → f .host ≡ true → (ltb a (extentBytes g) ≡ true) × (f .address ≡ hostVirtual g a)
+  unfolding view cellOf backing
+  lacks-by-host a f e host = by-place (ltb a (extentBytes g)) refl
+    where
+      by-place : (b : Bool) → ltb a (extentBytes g) ≡ b → (ltb a (extentBytes g) ≡ true) × (f .address ≡ hostVirtual g a)
+      by-place true below = (below, lacks-below a f below e .1)
+      by-place false past =
+          let outside : absent (exceptionOf addressing) ≡ absent f = rw past at e in
+          let is : exceptionOf addressing ≡ f = cc in
+          absurd (false≢true (ap (λ (x : Failure). x .host) is ∙ host))
+
+  in-extent : (a : ℕ) (f : Failure) → ltb a (extentBytes g) ≡ true → f .address ≡ hostVirtual g a → OfExtent g f
+  in-extent a f below is = inr (rw is (page-in-extent g a below))
+
+  -- the prefix page lies below the extent
+  view-faults : entryGood g ≡ true → Faults g (view g h) (HostsOwn g)
+  view-faults good = record {
+    lacking = λ a f e host. let own = lacks-by-host a f e host in record { host = host; place = in-extent a f (own .0) (own .1) };
+    guarded = λ a. record { host = refl; place = inl refl };
+    covered =
+        λ i f low e.
+        let below : ltb (g .prefix * pageBytes + i) (extentBytes g) ≡ true = lt-ltb (g .prefix * pageBytes + i) (extentBytes g) (omega (arith, entry-placed g good .prefixed)) in
+        let own = lacks-below (g .prefix * pageBytes + i) f below e in
+        record { host = own .0; place = in-extent (g .prefix * pageBytes + i) f below (own .1) };
+  }
+
+  -- an access that fails by the host
+  pub access-faults : entryGood g ≡ true → (c : Cpu) (store : Bool) (a : ℕ) (f : Failure) → access g (view g h) c store a ≡ denied f
+      → f .host ≡ true → OfExtent g f
+  access-faults good c store a f e = by-access (subst (Good _ _) e (access-good g (view g h) (HostsOwn g) (view-faults good) c store a))
+    where
+      by-access : Good (view g h) (λ f. f .host ≡ true → HostsOwn g f) (denied f) → f .host ≡ true → OfExtent g f
+      by-access (denies is) host = is host .place
 
 module _ (n : Numbers) (m : Machine) where
   abbrev here : Guest
   here = guestOf (m .description)
 
-  unitFrom-sound : (H : Failure → Type 0) (of-host : (f : Failure) → f .host ≡ true → H f)
-      (covered : (i : ℕ) (f : Failure) → i < pageBytes → view here (hostOf n m) (here .prefix * pageBytes + i) ≡ absent f → H f)
-      → Sound here (view here (hostOf n m)) H of-host covered (unitFrom n m)
+  abbrev seen : ℕ → Cell
+  seen = view here (hostOf n m)
+
+  unitFrom-sound : (H : Failure → Type 0) → Faults here seen H → Sound seen H (unitFrom n m)
   unfolding unitFrom
-  unitFrom-sound H of-host covered = unit-sound here (view here (hostOf n m)) H of-host covered _ _ _
+  unitFrom-sound H so = unit-sound here seen H so _ _ _
 
-  unitFrom-faults : entryGood here ≡ true → (f : Failure) → unitFrom n m ≡ faulted f → f .host ≡ true
-  unitFrom-faults good f e = by-outcome (subst (Sound _ _ _ _ _) e (unitFrom-sound (λ f. f .host ≡ true) (λ f host. host) (prefix-of-host here (hostOf n m) good)))
+  unitFrom-faults : entryGood here ≡ true → (f : Failure) → unitFrom n m ≡ faulted f → HostsOwn here f
+  unitFrom-faults good f e = by-outcome (subst (Sound _ _) e (unitFrom-sound (HostsOwn here) (view-faults here (hostOf n m) good)))
     where
-      by-outcome : Sound here (view here (hostOf n m)) (λ f. f .host ≡ true) (λ f host. host) (prefix-of-host here (hostOf n m) good) (faulted f) → f .host ≡ true
-      by-outcome (faults host) = host
+      by-outcome : Sound seen (HostsOwn here) (faulted f) → HostsOwn here f
+      by-outcome (faults own) = own
 
--- whatever fails
-abbrev Anything : Failure → Type 0
-Anything f = Unit
+  word-good : (H : Failure → Type 0) → Faults here seen H → GoodAll seen H (wordAccesses n m)
+  unfolding wordAccesses
+  word-good H so = all-real-good here seen H so true (each-upFrom pageBytes wordPlace 4 (omega arith))
 
-module _ (n : Numbers) (m : Machine) where
-  -- where something stands in the view of a machine
-  abbrev StandsFor : ℕ → Type 0
-  StandsFor = Stands (here n m) (view (here n m) (hostOf n m)) Anything (λ f host. tt) (λ i f low lacks. tt)
+  -- the interval timer's word fails by the host alone
+  word-faults : entryGood here ≡ true → (f : Failure) → wordAccesses n m ≡ stopped f → HostsOwn here f
+  word-faults good f e = by-accesses (subst (GoodAll _ _) e (word-good (HostsOwn here) (view-faults here (hostOf n m) good)))
+    where
+      by-accesses : GoodAll seen (HostsOwn here) (stopped f) → HostsOwn here f
+      by-accesses (stops own) = own
 
-  have-pages : {l : List ℕ} → Each StandsFor l → Each (HasPage (behindOf n m)) l
+  -- whatever fails
+  abbrev Anything : Failure → Type 0
+  Anything f = Unit
+
+  any-fault : Faults here seen Anything
+  any-fault = record { lacking = λ a f e host. tt; guarded = λ a. tt; covered = λ i f low e. tt }
+
+  have-pages : {l : List ℕ} → Each (Stands seen) l → Each (HasPage (behindOf n m)) l
   unfolding behindOf
   have-pages none = none
-  have-pages (more s l) = more (stands-on-page (here n m) (hostOf n m) Anything (λ f host. tt) (λ i f low lacks. tt) _ s) (have-pages l)
+  have-pages (more s l) = more (stands-on-page here (hostOf n m) _ s) (have-pages l)
 
 pub effects-are-backed : EffectsAreBacked
-effects-are-backed n m c e same =
-    by-outcome (subst (Sound _ _ _ _ _) same (unitFrom-sound n m Anything (λ f host. tt) (λ i f low lacks. tt)))
+effects-are-backed n m c e same = by-outcome (subst (Sound _ _) same (unitFrom-sound n m (Anything n m) (any-fault n m)))
   where
-    by-outcome : Sound (here n m) (view (here n m) (hostOf n m)) Anything (λ f host. tt) (λ i f low lacks. tt) (completed c e)
+    by-outcome : Sound (seen n m) (Anything n m) (completed c e)
         → Each (HasPage (behindOf n m)) (e .fetched) × Each (HasPage (behindOf n m)) (places (e .stores))
     by-outcome (completes fetched stores) = (have-pages n m fetched, have-pages n m stores)
 
 pub word-is-backed : WordIsBacked
-unfolding wordAccesses
-word-is-backed n m at e = by-accesses (subst (GoodAll _ _ _ _ _ _) e reach)
+word-is-backed n m at e = by-accesses (subst (GoodAll _ _) e (word-good n m (Anything n m) (any-fault n m)))
   where
-    reach : GoodAll (here n m) (view (here n m) (hostOf n m)) Anything (λ f host. tt) (λ i f low lacks. tt) Anything (wordAccesses n m)
-    reach =
-        all-real-good (here n m) (view (here n m) (hostOf n m)) Anything (λ f host. tt) (λ i f low lacks. tt) true
-        (each-upFrom pageBytes wordPlace 4 (omega arith))
-
-    by-accesses : GoodAll (here n m) (view (here n m) (hostOf n m)) Anything (λ f host. tt) (λ i f low lacks. tt) Anything (all at)
-        → Each (HasPage (behindOf n m)) (places at)
+    by-accesses : GoodAll (seen n m) (Anything n m) (all at) → Each (HasPage (behindOf n m)) (places at)
     by-accesses (reachesAll s) = have-pages n m s
-
--- the interval timer's word fails by the host alone
-word-faults : (n : Numbers) (m : Machine) → entryGood (guestOf (m .description)) ≡ true → (f : Failure) → wordAccesses n m ≡ stopped f
-    → f .host ≡ true
-unfolding wordAccesses
-word-faults n m good f e = by-accesses (subst (GoodAll g v OfHosts (λ f host. host) (prefix-of-host g h good) OfHosts) e reach)
-  where
-    g : Guest
-    g = guestOf (m .description)
-
-    h : Host
-    h = hostOf n m
-
-    v : ℕ → Cell
-    v = view g h
-
-    OfHosts : Failure → Type 0
-    OfHosts f = f .host ≡ true
-
-    reach : GoodAll g v OfHosts (λ f host. host) (prefix-of-host g h good) OfHosts (wordAccesses n m)
-    reach = all-real-good g v OfHosts (λ f host. host) (prefix-of-host g h good) true (each-upFrom pageBytes wordPlace 4 (omega arith))
-
-    by-accesses : GoodAll g v OfHosts (λ f host. host) (prefix-of-host g h good) OfHosts (stopped f) → f .host ≡ true
-    by-accesses (stops host) = host
 
 -- a step keeps the guest
 step-guest : (n : Numbers) (m : Machine) → guestOf ((left-by (step n m)) .description) ≡ guestOf (m .description)
@@ -403,17 +448,21 @@ step-guest n m =
     λ q d same. guest-of-withRequest q d ∙ same)
     m refl
 
-run-faults : (b : ℕ) (n : Numbers) (m : Machine) → entryGood (guestOf (m .description)) ≡ true → (f : Failure) → (run b n m) .end ≡ HostFault f → f .host ≡ true
+pub run-faults : (g : Guest) → entryGood g ≡ true → (b : ℕ) (n : Numbers) (m : Machine) → guestOf (m .description) ≡ g → (f : Failure)
+    → (run b n m) .end ≡ HostFault f → HostsOwn g f
 unfolding run onward counted
-run-faults zero n m good f e = let z : _≡_ {A = ℕ} 0 1 = cc in absurd (omega arith)
-run-faults (suc b) n m good f e =
-    step-cases n m Host's (λ c x is next u same ended. run-faults b n next (ap entryGood (after same) ∙ good) f ended)
+run-faults g good zero n m guest f e = let z : _≡_ {A = ℕ} 0 1 = cc in absurd (omega arith)
+run-faults g good (suc b) n m guest f e =
+    step-cases n m Host's (λ c x is next u same ended. run-faults g good b n next (after same ∙ guest) f ended)
     (λ r c is same ended. let z : _≡_ {A = ℕ} 0 1 = cc in absurd (omega arith))
-    (λ f′ is same ended. let s : f′ ≡ f = cc in subst (λ f. f .host ≡ true) s (unitFrom-faults n m good f′ is))
-    (λ f′ is same ended. let s : f′ ≡ f = cc in subst (λ f. f .host ≡ true) s (word-faults n m good f′ is)) refl e
+    (λ f′ is same ended. let s : f′ ≡ f = cc in here's (unitFrom-faults n m (ap entryGood guest ∙ good) f (is ∙ ap faulted s)))
+    (λ f′ is same ended. let s : f′ ≡ f = cc in here's (word-faults n m (ap entryGood guest ∙ good) f (is ∙ ap stopped s))) refl e
   where
     Host's : Step → Type 0
-    Host's s = step n m ≡ s → (onward (run b n) s) .end ≡ HostFault f → f .host ≡ true
+    Host's s = step n m ≡ s → (onward (run b n) s) .end ≡ HostFault f → HostsOwn g f
+
+    here's : HostsOwn (guestOf (m .description)) f → HostsOwn g f
+    here's own = subst (λ g. HostsOwn g f) guest own
 
     after : {next : Machine} → step n m ≡ goes next → guestOf (next .description) ≡ guestOf (m .description)
     after same = rw same at (step-guest n m)
@@ -424,4 +473,4 @@ faults-are-the-hosts n r storage keys f units =
     runOf-cases n r storage keys (λ result. result .answer ≡ answer.Ended (HostFault f) units → f .host ≡ true)
     (λ number refused e. let z : _≡_ {A = ℕ} 0 1 = cc in absurd (omega arith))
     (λ accepted bad e. let z : _≡_ {A = ℕ} 0 1 = cc in absurd (omega arith))
-    (λ accepted good e. run-faults (n .budget) n (machineOf n r storage keys) (ap entryGood (guest-of-withResults _ r) ∙ good) f cc)
+    (λ accepted good e. run-faults (guestOf r) good (n .budget) n (machineOf n r storage keys) (guest-of-withResults _ r) f (cc) .host)

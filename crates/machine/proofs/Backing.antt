@@ -1,12 +1,13 @@
--- The host pages behind the guest's extent: the walk reads only entries that describe the extent, and ends in guest frames.
+-- The host pages behind the guest's extent: the walk reads only entries that describe the extent, ends in guest frames, and where it
+-- fails names an entry that describes the extent.
 use Prim.Native.Nat.{ℕ, _+_, _*_, _/_, _%_, _-_, _≤_, _<_}
 use mathlib.Core.Path.{_≡_, refl, sym, ap, _∙_, subst, fun-ext}
 use mathlib.Core.Bool.{Bool, true, false, cond}
 use mathlib.Core.List.{List}
-use mathlib.Core.Logic.{inl, inr}
+use mathlib.Core.Logic.{_⊎_, inl, inr}
 use native.Mathlib.Omega.{arith}
-use borrow.Author.Tests.{leb-true, ltb-true, le-leb, lt-ltb}
-use lib.Dec.{leb, ltb}
+use borrow.Author.Tests.{leb-true, leb-false, ltb-true, le-leb, lt-ltb, eq-eqb}
+use lib.Dec.{eqb, leb, ltb}
 use lib.ListN.{length, getD}
 use Rattle.machine.specs.declared.Failure.{Failure}
 use Rattle.machine.specs.declared.Guest.{Guest}
@@ -18,11 +19,14 @@ use Rattle.machine.specs.Words.{byteAt, wordAt}
 use Rattle.machine.specs.Sizes.{frameBytes, pageBytes}
 use Rattle.machine.specs.Refusals.{framesOf}
 use Rattle.machine.specs.Entry.{entryGood, extentBytes}
-use Rattle.machine.specs.Failures.{addressing, segmentTranslation, hostFault}
+use Rattle.machine.specs.Failures.{protection, addressing, segmentTranslation, hostFault}
 use Rattle.machine.specs.Walk.{segmentIndex, pageIndex, frameOf, pageProtected, pastSegmentTable, walk, walkSegment, walkPage}
 use Rattle.machine.specs.Host.{Host, host, hostVirtual, hostEntry, inStorage, hostPage, backing, inFrame, cellOf, view}
 use Rattle.machine.specs.Frames.{InExtent, segmentPlace, segmentOf, pagePlace, pageOf, SegmentInReach, ValidPage, Describes, GuestFrame}
+use Rattle.machine.specs.Sought.{Way, wayOfPage, wayOfSegment, way, foundBy, hostSoughtBy, hostSought, faultSought}
 use Rattle.machine.proofs.Laws.{word-of-bytes}
+use Rattle.machine.proofs.Tests.{by-either-test}
+use Rattle.machine.proofs.Ways.{walk-by-way, way-by-page}
 use Rattle.machine.proofs.FrameBytes.{In, in-frame}
 
 -- the second storage has the first one's length and the first one's entries that describe the extent
@@ -40,17 +44,18 @@ walk-by-page read fail d v =
     let f : pageIndex v ≡ pageIndex (v / pageBytes * pageBytes) = omega arith in
     rw (e, f)
 
-page-in-extent : (g : Guest) (a : ℕ) → ltb a (extentBytes g) ≡ true → InExtent g (hostVirtual g a / 4096)
+pub page-in-extent : (g : Guest) (a : ℕ) → ltb a (extentBytes g) ≡ true → InExtent g (hostVirtual g a / 4096)
 page-in-extent g a e = let h : a < extentBytes g = ltb-true _ _ e in record { low = omega arith; high = omega arith }
 
 -- what holds of a host entry that is read and of one that is not holds of each
-pub read-or-not : (P : TableEntry → Type 0) (s : List ℕ) (v at : ℕ) → (at + 4 ≤ length s → P (Word (wordAt s at))) → P (Unread (hostFault v addressing)) → P (hostEntry s v at)
+pub read-or-not : (P : TableEntry → Type 0) (s : List ℕ) (v at : ℕ) → (at + 4 ≤ length s → P (Word (wordAt s at)))
+    → (length s < at + 4 → P (Unread (hostFault v addressing))) → P (hostEntry s v at)
 unfolding hostEntry
-read-or-not P s v at can cannot = go (leb (at + 4) (length s)) refl
-  where
-    go : (b : Bool) → leb (at + 4) (length s) ≡ b → P (cond b (Word (wordAt s at)) (Unread (hostFault v addressing)))
-    go true e = can (leb-true _ _ e)
-    go false e = cannot
+read-or-not P s v at can cannot = by-either-test P (leb (at + 4) (length s)) (λ e. can (leb-true _ _ e)) (λ e. cannot (leb-false _ _ e))
+
+-- a failure by protection, or by an address of the extent
+abbrev pub OfExtent : Guest → Failure → Type 0
+OfExtent g f = (f .code ≡ protection) ⊎ InExtent g (f .address / pageBytes)
 
 -- two results of one test, case by case
 pub same-test : {A : Type 0} (b : Bool) {u₁ u₂ v₁ v₂ : A} → (b ≡ true → u₁ ≡ u₂) → (b ≡ false → v₁ ≡ v₂) → cond b u₁ v₁ ≡ cond b u₂ v₂
@@ -65,30 +70,46 @@ module _ (g : Guest) (d : ℕ) (s₁ s₂ : List ℕ) (same : SameEntries g d s�
       (same-test (leb (at + 4) (length s₁)) (λ e. ap Word (word-of-bytes s₁ s₂ at λ i low high. same .entries at i (describes (leb-true _ _ e)) low high)) (λ _. refl))
 
   -- the page entry of a segment entry that the walk has read
-  same-page : (v : ℕ) → InExtent g (v / pageBytes) → SegmentInReach d s₁ (v / pageBytes)
-      → walkSegment (hostEntry s₁ v) (hostFault v) (pageIndex (v / pageBytes * pageBytes)) (Word (segmentOf d s₁ (v / pageBytes)))
-      ≡ walkSegment (hostEntry s₂ v) (hostFault v) (pageIndex (v / pageBytes * pageBytes)) (Word (segmentOf d s₁ (v / pageBytes)))
-  unfolding walkSegment
-  same-page v inside segment =
+  same-page : (v page : ℕ) → InExtent g page → SegmentInReach d s₁ page
+      → wayOfSegment (hostEntry s₁ v) (segmentPlace d page) (pageIndex (page * pageBytes)) (Word (segmentOf d s₁ page))
+      ≡ wayOfSegment (hostEntry s₂ v) (segmentPlace d page) (pageIndex (page * pageBytes)) (Word (segmentOf d s₁ page))
+  unfolding wayOfSegment
+  same-page v page inside segment =
       same-test _ (λ _. refl) λ valid. same-test _ (λ _. refl) λ formed. same-test _ (λ _. refl) λ inTable.
-      ap (walkPage (hostFault v)) (same-entry v (pagePlace d s₁ (v / pageBytes)) λ fits. record {
+      ap (wayOfPage (pagePlace d s₁ page)) (same-entry v (pagePlace d s₁ page) λ fits. record {
         good = good;
-        page = v / pageBytes;
+        page = page;
         inside = inside;
         which = inr (refl, record { segment = segment; valid = valid; formed = formed; inTable = inTable; inStorage = fits });
       })
 
-  same-walk : (v : ℕ) → InExtent g (v / pageBytes) → walk (hostEntry s₁ v) (hostFault v) d v ≡ walk (hostEntry s₂ v) (hostFault v) d v
-  unfolding walkSegment
-  same-walk v inside = simp walk-by-page (same-test _ (λ _. refl) λ near.
-      read-or-not (λ x. walkSegment (hostEntry s₁ v) (hostFault v) (pageIndex (v / pageBytes * pageBytes)) x ≡ walkSegment (hostEntry s₂ v) (hostFault v) (pageIndex (v / pageBytes * pageBytes)) x) s₁ v _
-      (λ fits. same-page v inside (record { inTable = near; inStorage = fits })) refl
-      ∙ ap (walkSegment (hostEntry s₂ v) (hostFault v) (pageIndex (v / pageBytes * pageBytes))) (same-entry v (segmentPlace d (v / pageBytes)) λ fits. record {
+  same-way-of-page : (v page : ℕ) → InExtent g page → way (hostEntry s₁ v) d (page * pageBytes) ≡ way (hostEntry s₂ v) d (page * pageBytes)
+  unfolding way wayOfSegment
+  same-way-of-page v page inside = same-test _ (λ _. refl) λ near.
+      read-or-not (λ x. on s₁ x ≡ on s₂ x) s₁ v _ (λ fits. same-page v page inside (record { inTable = near; inStorage = fits })) (λ _. refl)
+      ∙ ap (on s₂) (same-entry v (segmentPlace d page) λ fits. record {
         good = good;
-        page = v / pageBytes;
+        page = page;
         inside = inside;
         which = inl (refl, record { inTable = near; inStorage = fits });
-      }))
+      })
+    where
+      on : List ℕ → TableEntry → Way
+      on s = wayOfSegment (hostEntry s v) (segmentPlace d page) (pageIndex (page * pageBytes))
+
+  same-way : (v : ℕ) → InExtent g (v / pageBytes) → way (hostEntry s₁ v) d v ≡ way (hostEntry s₂ v) d v
+  same-way v inside =
+      way-by-page (hostEntry s₁ v) d v ∙ same-way-of-page v (v / pageBytes) inside ∙ sym (way-by-page (hostEntry s₂ v) d v)
+
+  same-walk : (v : ℕ) → InExtent g (v / pageBytes) → walk (hostEntry s₁ v) (hostFault v) d v ≡ walk (hostEntry s₂ v) (hostFault v) d v
+  same-walk v inside =
+      walk-by-way (hostEntry s₁ v) (hostFault v) d v ∙ ap (foundBy (hostFault v)) (same-way v inside) ∙ sym (walk-by-way (hostEntry s₂ v) (hostFault v) d v)
+
+  -- both storages name the same table for a fault of the extent
+  pub same-sought : (f : Failure) → OfExtent g f → faultSought d s₁ f ≡ faultSought d s₂ f
+  unfolding faultSought hostSought
+  same-sought f (inl protects) = rw (eq-eqb (f .code) protection protects)
+  same-sought f (inr inside) = same-test (eqb (f .code) protection) (λ _. refl) (λ _. ap hostSoughtBy (same-way (f .address) inside))
 
   same-in-storage : (v : ℕ) (w : Walk) → inStorage s₁ v w ≡ inStorage s₂ v w
   unfolding inStorage
@@ -138,8 +159,8 @@ module _ (d : ℕ) (s : List ℕ) where
         },
         cc,
       ))
-      no-failure)
-      no-failure)
+      (λ _. no-failure))
+      (λ _. no-failure))
       (rw walk-by-page at e)
 
   pub finds-page : (v : ℕ) → ValidPage d s (v / pageBytes)

@@ -595,7 +595,7 @@ module _ (n : Numbers) (r storage keys : List ℕ) (end : End) (units : ℕ) (t 
 
   timed-as : (e : Run) → e .end ≡ end → e .units ≡ units
       → Out n r storage keys self-agree (t .accepted) (t .good) (t .on) short-time (machineOf n r storage keys) e
-      → (fallen : ℕ) × TimedAs n r storage keys units end (resultOf e) fallen
+      → (fallen : ℕ) × TimedAs n r storage keys units end (resultOf n e) fallen
   unfolding resultOf machineOf
   timed-as e same-end same-units (fallen, going, d) = (
     fallen,

@@ -1,10 +1,11 @@
--- Proofs of the statements of specs/Examples, specs/Theorems and specs/Isolation, and the laws that they share.
+-- Proofs of the statements of specs/, and the laws that they share.
 pub mod Tests
 pub mod Laws
 pub mod Verdicts
 pub mod Ticks
 pub mod Runs
 pub mod Entry
+pub mod Ways
 pub mod Examples
 pub mod System370
 pub mod Kept
@@ -18,6 +19,7 @@ pub mod Backing
 pub mod Effects
 pub mod Twins
 pub mod Isolation
+pub mod WhichTable
 pub mod OneFrame
 pub mod IsolationIsNotEmpty
 pub mod IntervalTimer

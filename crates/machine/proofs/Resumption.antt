@@ -106,9 +106,9 @@ start-cleared n r storage keys = withResults-withResults _ _ r refl
 
 -- a run that is accepted and has a good entry
 run-of-budget : (n : Numbers) (a : ℕ) (r storage keys : List ℕ) → runVerdict (withBudget n a) r storage keys ≡ Accepted → entryGood (guestOf r) ≡ true
-    → runOf (withBudget n a) r storage keys ≡ resultOf (run a n (machineOf n r storage keys))
-unfolding runOf runAs machineOf
-run-of-budget n a r storage keys accepted good = rw (accepted, good) (ap resultOf (run-renumbered a n _ a _))
+    → runOf (withBudget n a) r storage keys ≡ resultOf n (run a n (machineOf n r storage keys))
+unfolding runOf runAs machineOf resultOf
+run-of-budget n a r storage keys accepted good = rw (accepted, good) (ap (resultOf n) (run-renumbered a n _ a _))
 
 module _ (n : Numbers) (a b : ℕ) (r storage keys : List ℕ) (small : n .clock < 2 ^ 64) (limit : a + b ≤ mostUnits)
     (accepted : runVerdict (withBudget n a) r storage keys ≡ Accepted) (good : entryGood (guestOf r) ≡ true) where
@@ -118,7 +118,7 @@ module _ (n : Numbers) (a b : ℕ) (r storage keys : List ℕ) (small : n .clock
   first : Result
   first = runOf (withBudget n a) r storage keys
 
-  first-run : first ≡ resultOf (run a n start)
+  first-run : first ≡ resultOf n (run a n start)
   unfolding first start
   first-run = run-of-budget n a r storage keys accepted good
 
@@ -180,24 +180,24 @@ module _ (n : Numbers) (a b : ℕ) (r storage keys : List ℕ) (small : n .clock
 
   -- a run of budget b from what the first left, where that used its budget
   second-run : (run a n start) .end ≡ BudgetUsed
-      → runOf (resumedWith n a b) (first .description) (first .storage) (first .keys) ≡ resultOf (run b n ((run a n start) .machine))
-  unfolding runOf runAs
+      → runOf (resumedWith n a b) (first .description) (first .storage) (first .keys) ≡ resultOf n (run b n ((run a n start) .machine))
+  unfolding runOf runAs resultOf
   second-run used =
-      rw (accepted-again, good-again) (ap resultOf (run-renumbered b n _ b _ ∙ ap (run b n) (second-start used)))
+      rw (accepted-again, good-again) (ap (resultOf n) (run-renumbered b n _ b _ ∙ ap (run b n) (second-start used)))
 
   -- the whole run, accepted and with a good entry
-  resumed-run : resultOf (run (a + b) n start) ≡ resumedFrom n a b first (first .answer)
+  resumed-run : resultOf n (run (a + b) n start) ≡ resumedFrom n a b first (first .answer)
   unfolding resultOf
   resumed-run =
-      ap resultOf (run-add a b n start) ∙ by-end ((run a n start) .end) refl
+      ap (resultOf n) (run-add a b n start) ∙ by-end ((run a n start) .end) refl
       ∙ ap (resumedFrom n a b first) (sym (ap (λ (result : Result). result .answer) first-run))
     where
-      same-end : (e : End) → (run a n start) .end ≡ e → resultOf (record { end = e; units = (run a n start) .units; machine = (run a n start) .machine }) ≡ first
+      same-end : (e : End) → (run a n start) .end ≡ e → resultOf n (record { end = e; units = (run a n start) .units; machine = (run a n start) .machine }) ≡ first
       same-end e is =
-          ap (λ (x : End). resultOf (record { end = x; units = (run a n start) .units; machine = (run a n start) .machine })) (sym is) ∙ sym first-run
+          ap (λ (x : End). resultOf n (record { end = x; units = (run a n start) .units; machine = (run a n start) .machine })) (sym is) ∙ sym first-run
 
       by-end : (e : End) → (run a n start) .end ≡ e
-          → resultOf (continued b n ((run a n start) .machine) ((run a n start) .units) e) ≡ resumedFrom n a b first (Ended e ((run a n start) .units))
+          → resultOf n (continued b n ((run a n start) .machine) ((run a n start) .units) e) ≡ resumedFrom n a b first (Ended e ((run a n start) .units))
       by-end (Intercepted reason) is = same-end (Intercepted reason) is
       by-end (HostFault f) is = same-end (HostFault f) is
       by-end BudgetUsed is = rw (second-run is)
@@ -209,7 +209,7 @@ resumption n a b r storage keys small limit =
     (λ (result : Result). result ≡ resumedFrom n a b (runOf (withBudget n a) r storage keys) ((runOf (withBudget n a) r storage keys) .answer))
     (λ number e. rw (same-verdict ∙ e))
     (λ e g. rw (same-verdict ∙ e, g))
-    (λ e g. ap resultOf (run-renumbered (a + b) n _ (a + b) _) ∙ resumed-run n a b r storage keys small limit (same-verdict ∙ e) g)
+    (λ e g. ap (resultOf n) (run-renumbered (a + b) n _ (a + b) _) ∙ resumed-run n a b r storage keys small limit (same-verdict ∙ e) g)
   where
     same-verdict : runVerdict (withBudget n a) r storage keys ≡ runVerdict (withBudget n (a + b)) r storage keys
     same-verdict = verdict-of-budget n a (a + b) r storage keys (omega arith) limit
@@ -248,7 +248,7 @@ host-fault-undoes-its-unit n r storage keys f units =
     whole = run (n .budget) n (machineOf n r storage keys)
 
     cut : runVerdict n r storage keys ≡ Accepted → entryGood (guestOf r) ≡ true → whole .end ≡ HostFault f
-        → runOf (withBudget n (whole .units)) r storage keys ≡ resultOf (record { end = BudgetUsed; units = whole .units; machine = whole .machine })
+        → runOf (withBudget n (whole .units)) r storage keys ≡ resultOf n (record { end = BudgetUsed; units = whole .units; machine = whole .machine })
     cut e g fault =
         run-of-budget n (whole .units) r storage keys
         (verdict-of-budget n (whole .units) (n .budget) r storage keys
@@ -256,4 +256,4 @@ host-fault-undoes-its-unit n r storage keys f units =
         (accepted-budget n r storage keys e)
         ∙ e)
         g
-        ∙ ap resultOf (before-fault (n .budget) n _ f fault)
+        ∙ ap (resultOf n) (before-fault (n .budget) n _ f fault)

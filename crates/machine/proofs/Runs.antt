@@ -24,6 +24,7 @@ use Rattle.machine.specs.Refusals.{runVerdict}
 use Rattle.machine.specs.Entry.{entryGood}
 use Rattle.machine.specs.Host.{Located, storeByte, stored, markKey, marked, referenced, changed, places}
 use Rattle.machine.specs.Addresses.{stopped}
+use Rattle.machine.specs.Sought.{nowhere}
 use Rattle.machine.specs.Outcomes.{Effects, Outcome, completed, intercepted, faulted}
 use Rattle.machine.specs.Run.{Machine, Ended, unitFrom, markedBy, afterUnit, afterInterception, answered, withTick, withWord, wordAccesses, Step, goes, ends, stepOf, step, counted, onward, run}
 use Rattle.machine.specs.Operations.{Result, resultOf, machineOf, runAs, runOf}
@@ -165,18 +166,18 @@ run-add (suc a) b n m = rw suc-add (by-step (λ k. run-add a b n k) (step-ends n
 -- the run operation, by cases: refused, entry failing, running
 module _ (n : Numbers) (r storage keys : List ℕ) (P : Result → Type 0)
     (refused : (number : ℕ) → runVerdict n r storage keys ≡ Refused number
-    → P (record { answer = answer.Refused number; description = r; storage = storage; keys = keys }))
+    → P (record { answer = answer.Refused number; table = nowhere; description = r; storage = storage; keys = keys }))
     (failing : runVerdict n r storage keys ≡ Accepted → entryGood (guestOf r) ≡ false
-    → P (resultOf (record { end = Intercepted Validity; units = 0; machine = machineOf n r storage keys })))
-    (running : runVerdict n r storage keys ≡ Accepted → entryGood (guestOf r) ≡ true → P (resultOf (run (n .budget) n (machineOf n r storage keys)))) where
+    → P (resultOf n (record { end = Intercepted Validity; units = 0; machine = machineOf n r storage keys })))
+    (running : runVerdict n r storage keys ≡ Accepted → entryGood (guestOf r) ≡ true → P (resultOf n (run (n .budget) n (machineOf n r storage keys)))) where
   by-verdict : (v : Verdict) → runVerdict n r storage keys ≡ v → P (runAs n r storage keys v)
   unfolding runAs
   by-verdict (Refused number) e = refused number e
   by-verdict Accepted e = by-entry (entryGood (guestOf r)) refl
     where
       by-entry : (b : Bool) → entryGood (guestOf r) ≡ b
-          → P (cond b (resultOf (run (n .budget) n (machineOf n r storage keys)))
-          (resultOf (record { end = Intercepted Validity; units = 0; machine = machineOf n r storage keys })))
+          → P (cond b (resultOf n (run (n .budget) n (machineOf n r storage keys)))
+          (resultOf n (record { end = Intercepted Validity; units = 0; machine = machineOf n r storage keys })))
       by-entry true g = running e g
       by-entry false g = failing e g
 

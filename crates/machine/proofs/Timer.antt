@@ -392,7 +392,7 @@ module _ (n : Numbers) (r storage keys : List ℕ) where
     abbrev Fallen : Result → Type 0
     Fallen result = result .answer ≡ answer.Ended end units → doubleAt (result .description) timerAt ≡ fallen n units (doubleAt r timerAt)
 
-    resultOf-falls : (e : Ended) → Falls n (machineOf n r storage keys) e → Fallen (resultOf e)
+    resultOf-falls : (e : Ended) → Falls n (machineOf n r storage keys) e → Fallen (resultOf n e)
     unfolding resultOf
     resultOf-falls e falls ended =
         let same : e .units ≡ units = cc in

@@ -8,6 +8,7 @@ use native.Mathlib.Omega.{arith}
 use Rattle.machine.specs.declared.Cpu.{Cpu}
 use Rattle.machine.specs.declared.End.{End}
 use Rattle.machine.specs.declared.End.the-variants.{HostFault}
+use Rattle.machine.specs.declared.Failure.{Failure}
 use Rattle.machine.specs.declared.Numbers.{Numbers}
 use Rattle.machine.specs.declared.Reason.{Reason}
 use Rattle.machine.specs.declared.Verdict.the-variants.{Accepted}
@@ -22,6 +23,7 @@ use Rattle.machine.specs.Entry.{entryGood}
 use Rattle.machine.specs.Frames.{segmentPlace, pagePlace, SegmentInReach, PageInReach, Describes}
 use Rattle.machine.specs.Host.{host, backing, view, Located}
 use Rattle.machine.specs.Addresses.{realAccess, Accesses, all, stopped, accesses, upFrom, whenReached}
+use Rattle.machine.specs.Sought.{faultSought}
 use Rattle.machine.specs.Interruptions.{withBytes}
 use Rattle.machine.specs.Outcomes.{Effects, Outcome, completed, intercepted, faulted}
 use Rattle.machine.specs.Units.{unit}
@@ -30,7 +32,7 @@ use Rattle.machine.specs.Isolation.{RunFrame, Agree}
 use Rattle.machine.proofs.Laws.{guest-of-withCpu, guest-of-withRequest, guest-of-withInterval}
 use Rattle.machine.proofs.Runs.{exit-keeps}
 use Rattle.machine.proofs.FrameBytes.{In}
-use Rattle.machine.proofs.Backing.{SameEntries, same-backing, backed-by-guest-frame, same-view}
+use Rattle.machine.proofs.Backing.{SameEntries, OfExtent, same-sought, same-backing, backed-by-guest-frame, same-view}
 use Rattle.machine.proofs.Effects.{Outside, Alike, stored-alike, bytes-alike, markedBy-alike}
 
 module _ (n : Numbers) (r s₁ k₁ s₂ k₂ : List ℕ) where
@@ -85,11 +87,24 @@ module _ (n : Numbers) (r s₁ k₁ s₂ k₂ : List ℕ) where
       pages-kept m guest entries = ap (λ g. backing g (hostOf n m)) guest ∙ sym (same-backing (guestOf r) (n .designation) s₁ (m .storage) entries good k₁ (m .keys))
 
       module _ (m₁ m₂ : Machine) (t : Twins m₁ m₂) where
+        entries₁ : SameEntries (guestOf r) (n .designation) s₁ (m₁ .storage)
+        entries₁ = entries-kept s₁ _ (record { lengths = refl; entries = λ _ _ _ _ _. refl }) (t .storage .outside₁)
+
+        entries₂ : SameEntries (guestOf r) (n .designation) s₁ (m₂ .storage)
+        entries₂ = entries-kept s₂ _ same-start (t .storage .outside₂)
+
+        -- both name the same table for a fault of the extent
+        pub same-table : (f : Failure) → OfExtent (guestOf r) f
+            → faultSought (n .designation) (m₁ .storage) f ≡ faultSought (n .designation) (m₂ .storage) f
+        same-table f place =
+            sym (same-sought (guestOf r) (n .designation) s₁ (m₁ .storage) entries₁ good f place)
+            ∙ same-sought (guestOf r) (n .designation) s₁ (m₂ .storage) entries₂ good f place
+
         pub pages₁ : behindOf n m₁ ≡ pages
-        pages₁ = pages-kept m₁ (t .guest) (entries-kept s₁ _ (record { lengths = refl; entries = λ _ _ _ _ _. refl }) (t .storage .outside₁))
+        pages₁ = pages-kept m₁ (t .guest) entries₁
 
         pages₂ : behindOf n m₂ ≡ pages
-        pages₂ = pages-kept m₂ (ap guestOf (sym (t .description)) ∙ t .guest) (entries-kept s₂ _ same-start (t .storage .outside₂))
+        pages₂ = pages-kept m₂ (ap guestOf (sym (t .description)) ∙ t .guest) entries₂
 
         same-views : view (guestOf (m₁ .description)) (hostOf n m₁) ≡ view (guestOf (m₂ .description)) (hostOf n m₂)
         unfolding behindOf hostOf

@@ -5,6 +5,8 @@ use Rattle.machine.specs.declared.End.{End}
 use Rattle.machine.specs.declared.End.the-variants.{Intercepted, HostFault, BudgetUsed}
 use Rattle.machine.specs.declared.Reason.{Reason}
 use Rattle.machine.specs.declared.Reason.the-variants.{Instruction, Program, ExternalRequest, External, IoRequest, Wait, Validity, Stop, Operation}
+use Rattle.machine.specs.declared.Stage.{Stage}
+use Rattle.machine.specs.declared.Stage.the-variants.{None, GuestSegment, GuestPage, HostSegment, HostPage}
 use Rattle.machine.specs.declared.Text.{Text}
 use Rattle.machine.specs.Words.{halfBytes, wordBytes}
 
@@ -31,6 +33,14 @@ unfoldable pub endAddress : End → ℕ
 endAddress (Intercepted r) = 0
 endAddress (HostFault f) = f .address
 endAddress BudgetUsed = 0
+
+-- the number of a stage (request 2/12)
+unfoldable pub stageNumber : Stage → ℕ
+stageNumber None = 0
+stageNumber GuestSegment = 1
+stageNumber GuestPage = 2
+stageNumber HostSegment = 3
+stageNumber HostPage = 4
 
 abbrev pub noText : Text
 noText = record { ilc = 0; first = 0; second = 0; third = 0 }

@@ -37,10 +37,11 @@ module _ (n : Numbers) (r storage₁ keys₁ storage₂ keys₂ : List ℕ) wher
     pub alike : AgreeButApart
     pub apart : (at frame : ℕ) → RunEntry n r storage₁ keys₁ at → RunFrame n r storage₁ keys₁ frame → at / frameBytes ≡ frame → ⊥
 
-  -- Both give the same answer, unit count (in the answer) and record, and leave the same bytes and keys in those frames; each leaves
-  -- every other byte and key, and the lengths, as they came.
+  -- Both give the same answer, unit count (in the answer), table that was bad and record, and leave the same bytes and keys in those
+  -- frames; each leaves every other byte and key, and the lengths, as they came.
   pub record Isolated : Type 0 where
     pub answer : (runOf n r storage₁ keys₁) .answer ≡ (runOf n r storage₂ keys₂) .answer
+    pub table : (runOf n r storage₁ keys₁) .table ≡ (runOf n r storage₂ keys₂) .table
     pub description : (runOf n r storage₁ keys₁) .description ≡ (runOf n r storage₂ keys₂) .description
     pub frames : (frame i : ℕ) → RunFrame n r storage₁ keys₁ frame → i < frameBytes
         → byteAt ((runOf n r storage₁ keys₁) .storage) (frame * frameBytes + i) ≡ byteAt ((runOf n r storage₂ keys₂) .storage) (frame * frameBytes + i)

@@ -1,4 +1,4 @@
--- Demand 3 for translate, which changes nothing: the answer alone. Check is given no host.
+-- Demand 3 for translate, which changes nothing: the answer alone, the table that was bad in it. Check is given no host.
 use Prim.Native.Nat.{ℕ, _+_, _*_, _≤_, _<_}
 use mathlib.Core.Path.{_≡_}
 use mathlib.Core.List.{List}

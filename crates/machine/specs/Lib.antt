@@ -1,4 +1,4 @@
--- The definition of document 01 with request 1/12. One module for each part; docs/ARCHITECTURE.md has the table of headings and names.
+-- The definition of document 01 with requests 1/12 and 2/12. One module for each part; docs/ARCHITECTURE.md has the table of headings and names.
 pub mod Sizes
 pub mod Words
 pub mod Record
@@ -13,6 +13,7 @@ pub mod Host
 pub mod Frames
 pub mod Addresses
 pub mod Opcodes
+pub mod Sought
 pub mod Outcomes
 pub mod Interruptions
 pub mod Execute
@@ -23,6 +24,7 @@ pub mod Answers
 pub mod Theorems
 pub mod Isolation
 pub mod IntervalTimer
+pub mod WhichTable
 pub mod IsolationOfAnswers
 pub mod Examples
 pub mod IsolationIsNotEmpty

@@ -1,5 +1,5 @@
 -- The three public operations: check a record, translate one guest address, run. Document 01, "What is built", "The record", "Entry".
--- Request 1/12: a System/370 guest has no DAT.
+-- Request 1/12: a System/370 guest has no DAT. Request 2/12: an answer that fails has the table that was bad.
 use Prim.Native.Nat.{ℕ}
 use mathlib.Core.Bool.{Bool, cond, not, _&&_}
 use mathlib.Core.List.{List}
@@ -13,6 +13,7 @@ use Rattle.machine.specs.declared.End.the-variants.{Intercepted, BudgetU
 use Rattle.machine.specs.declared.Guest.{Guest}
 use Rattle.machine.specs.declared.Numbers.{Numbers}
 use Rattle.machine.specs.declared.Reason.the-variants.{Validity}
+use Rattle.machine.specs.declared.Sought.{Sought}
 use Rattle.machine.specs.declared.Translated.{Translated}
 use Rattle.machine.specs.declared.Translated.the-variants as translated
 use Rattle.machine.specs.declared.Verdict.{Verdict}
@@ -25,6 +26,7 @@ use Rattle.machine.specs.Entry.{entryGood}
 use Rattle.machine.specs.Psw.{datOn, wrap}
 use Rattle.machine.specs.Host.{Host, inFrame, backing, view}
 use Rattle.machine.specs.Addresses.{Access, reached, denied, access}
+use Rattle.machine.specs.Sought.{nowhere, sought, endSought}
 use Rattle.machine.specs.Run.{Machine, Ended, run}
 use Rattle.machine.specs.Answers.{endResults}
 
@@ -42,13 +44,13 @@ check r = checkedAs r (checkVerdict r)
 
 -- the host absolute address of a guest absolute one
 unfoldable pub addressIn : ℕ → Walk → Translated
-addressIn a (Failed f) = translated.Failed f
+addressIn a (Failed f) = translated.Failed f nowhere
 addressIn a (Page frame protected) = translated.Address (inFrame frame a)
 
--- a byte that is reached lies in a frame, or its access would have failed
-unfoldable pub translatedTo : Guest → Host → Access → Translated
-translatedTo g h (denied f) = translated.Failed f
-translatedTo g h (reached l) = addressIn (l .absolute) (backing g h (l .absolute))
+-- for a wrapped logical address: a byte that is reached lies in a frame, or its access would have failed
+unfoldable pub translatedTo : Guest → Host → Cpu → ℕ → Access → Translated
+translatedTo g h c a (denied f) = translated.Failed f (sought g h c a f)
+translatedTo g h c a (reached l) = addressIn (l .absolute) (backing g h (l .absolute))
 
 -- DAT is off, or the guest is a 370-XA one
 unfoldable pub translates : Cpu → Bool
@@ -59,7 +61,7 @@ unfoldable pub translatedAs : List ℕ → Host → ℕ → ℕ → Verdict → 
 translatedAs r h a kind (Refused number) = translated.Refused number
 translatedAs r h a kind Accepted =
     cond (entryGood (guestOf r) && translates (cpuOf r))
-    (translatedTo (guestOf r) h (access (guestOf r) (view (guestOf r) h) (cpuOf r) (eqb kind 1) (wrap (cpuOf r) a)))
+    (translatedTo (guestOf r) h (cpuOf r) (wrap (cpuOf r) a) (access (guestOf r) (view (guestOf r) h) (cpuOf r) (eqb kind 1) (wrap (cpuOf r) a)))
     translated.Validity
 
 -- takes any 32-bit address
@@ -68,17 +70,19 @@ translate r h a kind = translatedAs r h a kind (translateVerdict r (h .storage) 
 
 -- run
 
--- what a run answers and leaves behind
+-- what a run answers, with the table of its host fault, and what it leaves behind
 pub record Result : Type 0 where
   pub answer : Answer
+  pub table : Sought
   pub description : List ℕ
   pub storage : List ℕ
   pub keys : List ℕ
 
 -- bytes 52-65 are zero except as the end says
-unfoldable pub resultOf : Ended → Result
-resultOf e = record {
+unfoldable pub resultOf : Numbers → Ended → Result
+resultOf n e = record {
   answer = answer.Ended (e .end) (e .units);
+  table = endSought (n .designation) (e .machine .storage) (e .end);
   description = withResults (endResults (e .end)) (e .machine .description);
   storage = e .machine .storage;
   keys = e .machine .keys;
@@ -97,13 +101,14 @@ machineOf n r storage keys = record {
 unfoldable pub runAs : Numbers → List ℕ → List ℕ → List ℕ → Verdict → Result
 runAs n r storage keys (Refused number) = record {
   answer = answer.Refused number;
+  table = nowhere;
   description = r;
   storage = storage;
   keys = keys;
 }
 runAs n r storage keys Accepted =
-    cond (entryGood (guestOf r)) (resultOf (run (n .budget) n (machineOf n r storage keys)))
-    (resultOf (record { end = Intercepted Validity; units = 0; machine = machineOf n r storage keys }))
+    cond (entryGood (guestOf r)) (resultOf n (run (n .budget) n (machineOf n r storage keys)))
+    (resultOf n (record { end = Intercepted Validity; units = 0; machine = machineOf n r storage keys }))
 
 unfoldable pub runOf : Numbers → List ℕ → List ℕ → List ℕ → Result
 runOf n r storage keys = runAs n r storage keys (runVerdict n r storage keys)

@@ -90,6 +90,7 @@ resumedFrom n a b first (Ended (Intercepted reason) units) = first
 resumedFrom n a b first (Ended (HostFault failure) units) = first
 resumedFrom n a b first (Ended BudgetUsed units) = record {
   answer = onTopOf units (second .answer);
+  table = second .table;
   description = second .description;
   storage = second .storage;
   keys = second .keys;

@@ -57,6 +57,22 @@ pub struct Failure {
     pub address: u32,
 }
 
+// The table whose entry was sought when a walk ended: the guest's or the host's, for a segment or for a page; none where an access
+// fails by no entry.
+pub enum Stage {
+    None,
+    GuestSegment,
+    GuestPage,
+    HostSegment,
+    HostPage,
+}
+
+// Which table was bad: the stage, and the address of the entry, guest real or host absolute; zero where that entry was not read.
+pub struct Sought {
+    pub stage: Stage,
+    pub entry: u32,
+}
+
 // A table entry, or why it cannot be read.
 pub enum TableEntry {
     Word(u32),
@@ -140,12 +156,13 @@ pub enum Checked {
     Validity,
 }
 
-// The answer of translate: a refusal, the host absolute address, code 32, or a guest program exception or host fault.
+// The answer of translate: a refusal, the host absolute address, code 32, or a guest program exception or host fault, with the table
+// that was bad.
 pub enum Translated {
     Refused(u32),
     Address(u32),
     Validity,
-    Failed(Failure),
+    Failed { failure: Failure, sought: Sought },
 }
 
 // The answer of run: a refusal, or the end with the units completed.

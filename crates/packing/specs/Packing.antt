@@ -9,13 +9,15 @@ use Rattle.machine.specs.declared.End.{End}
 use Rattle.machine.specs.declared.End.the-variants as end
 use Rattle.machine.specs.declared.Failure.{Failure}
 use Rattle.machine.specs.declared.Reason.the-variants.{Validity}
+use Rattle.machine.specs.declared.Sought.{Sought}
 use Rattle.machine.specs.declared.Translated.{Translated}
 use Rattle.machine.specs.declared.Translated.the-variants as translated
-use Rattle.machine.specs.Answers.{reasonCode, endAddress}
+use Rattle.machine.specs.Answers.{reasonCode, endAddress, stageNumber}
+use Rattle.machine.specs.Sought.{nowhere}
 
--- the kind in bits 0-7, its number in bits 8-15, bits 16-31 zero, the units completed in bits 32-63
-abbrev pub packed : ℕ → ℕ → ℕ → ℕ
-packed kind number units = kind * 2 ^ 56 + number % 256 * 2 ^ 48 + units
+-- the kind in bits 0-7, its number in bits 8-15, the stage in bits 16-23, bits 24-31 zero, the units completed in bits 32-63
+abbrev pub packed : ℕ → ℕ → Sought → ℕ → ℕ
+packed kind number s units = kind * 2 ^ 56 + number % 256 * 2 ^ 48 + stageNumber (s .stage) * 2 ^ 40 + units
 
 -- the kinds
 
@@ -38,37 +40,41 @@ abbrev pub goodKind : ℕ
 goodKind = 5
 
 unfoldable pub packedCheck : Checked → ℕ
-packedCheck (checked.Refused number) = packed refusedKind number 0
-packedCheck checked.Good = packed goodKind 0 0
-packedCheck checked.Validity = packed interceptedKind (reasonCode Validity) 0
+packedCheck (checked.Refused number) = packed refusedKind number nowhere 0
+packedCheck checked.Good = packed goodKind 0 nowhere 0
+packedCheck checked.Validity = packed interceptedKind (reasonCode Validity) nowhere 0
 
-unfoldable pub packedFailure : Failure → ℕ
-packedFailure f = cond (f .host) (packed hostFaultKind (f .code) 0) (packed exceptionKind (f .code) 0)
+unfoldable pub packedFailure : Failure → Sought → ℕ
+packedFailure f s = cond (f .host) (packed hostFaultKind (f .code) s 0) (packed exceptionKind (f .code) s 0)
 
 unfoldable pub packedTranslation : Translated → ℕ
-packedTranslation (translated.Refused number) = packed refusedKind number 0
-packedTranslation (translated.Address a) = packed goodKind 0 0
-packedTranslation translated.Validity = packed interceptedKind (reasonCode Validity) 0
-packedTranslation (translated.Failed f) = packedFailure f
+packedTranslation (translated.Refused number) = packed refusedKind number nowhere 0
+packedTranslation (translated.Address a) = packed goodKind 0 nowhere 0
+packedTranslation translated.Validity = packed interceptedKind (reasonCode Validity) nowhere 0
+packedTranslation (translated.Failed f s) = packedFailure f s
+
+-- the caller's place: the address of the table entry in bits 0-31, an address of the answer in bits 32-63
+abbrev pub placed : Sought → ℕ → ℕ
+placed s address = s .entry * 2 ^ 32 + address
 
 -- the host absolute address of a translation, the host virtual address of a host fault, else zero; a refusal leaves what stood there
 unfoldable pub placeAfter : Translated → ℕ → ℕ
 placeAfter (translated.Refused number) before = before
 placeAfter (translated.Address a) before = a
 placeAfter translated.Validity before = 0
-placeAfter (translated.Failed f) before = cond (f .host) (f .address) 0
+placeAfter (translated.Failed f s) before = placed s (cond (f .host) (f .address) 0)
 
--- the answer of run: the units completed stand beside the kind and its number
-unfoldable pub packedEnd : End → ℕ → ℕ
-packedEnd (end.Intercepted r) units = packed interceptedKind (reasonCode r) units
-packedEnd (end.HostFault f) units = packed hostFaultKind (f .code) units
-packedEnd end.BudgetUsed units = packed budgetKind 0 units
+-- the answer of run: the units completed stand beside the kind, its number and the stage
+unfoldable pub packedEnd : End → Sought → ℕ → ℕ
+packedEnd (end.Intercepted r) s units = packed interceptedKind (reasonCode r) s units
+packedEnd (end.HostFault f) s units = packed hostFaultKind (f .code) s units
+packedEnd end.BudgetUsed s units = packed budgetKind 0 s units
 
-unfoldable pub packedAnswer : Answer → ℕ
-packedAnswer (answer.Refused number) = packed refusedKind number 0
-packedAnswer (answer.Ended e units) = packedEnd e units
+unfoldable pub packedAnswer : Answer → Sought → ℕ
+packedAnswer (answer.Refused number) s = packed refusedKind number nowhere 0
+packedAnswer (answer.Ended e units) s = packedEnd e s units
 
 -- the host virtual address of a host fault, else zero; a refusal leaves what stood there
-unfoldable pub placeAfterRun : Answer → ℕ → ℕ
-placeAfterRun (answer.Refused number) before = before
-placeAfterRun (answer.Ended e units) before = endAddress e
+unfoldable pub placeAfterRun : Answer → Sought → ℕ → ℕ
+placeAfterRun (answer.Refused number) s before = before
+placeAfterRun (answer.Ended e units) s before = placed s (endAddress e)

@@ -1,6 +1,6 @@
 //! The three C functions of drevokas.h, and the unpacking of their answers.
 
-use crate::model::Answer;
+use crate::model::{Answer, Table};
 
 extern "C" {
     fn drevokas_check(record: *const u8, record_len: usize) -> u64;
@@ -61,22 +61,34 @@ impl Packed {
         (self.word >> 48 & 0xFF) as u32
     }
 
+    pub fn stage(self) -> u32 {
+        (self.word >> 40 & 0xFF) as u32
+    }
+
     pub fn units(self) -> u32 {
         self.word as u32
     }
+
+    /// The address of the table entry involved.
+    pub fn entry(self) -> u32 {
+        (self.location >> 32) as u32
+    }
 }
 
-/// The answer that the library owes for an answer of the model.
+/// The answer that the library owes for an answer of the model. From the left: kind, number, stage and zeros, 8 bits
+/// each; units, 32. In *where: the table entry's address, and the host address.
 pub fn pack(answer: Answer, units: u32) -> Packed {
-    let (kind, number, location) = match answer {
-        Answer::Refused(number) => (REFUSED, number, NOT_TOUCHED),
-        Answer::Intercepted(code) => (INTERCEPTED, code, 0),
-        Answer::HostFault(code, address) => (HOST_FAULT, code, address as u64),
-        Answer::BudgetUsed => (BUDGET_USED, 0, 0),
-        Answer::ProgramException(code) => (PROGRAM_EXCEPTION, code, 0),
-        Answer::Good(address) => (GOOD, 0, address as u64),
+    let (kind, number, table, address) = match answer {
+        Answer::Refused(number) => (REFUSED, number, Table::NONE, 0),
+        Answer::Intercepted(code) => (INTERCEPTED, code, Table::NONE, 0),
+        Answer::HostFault(code, address, table) => (HOST_FAULT, code, table, address),
+        Answer::BudgetUsed => (BUDGET_USED, 0, Table::NONE, 0),
+        Answer::ProgramException(code, table) => (PROGRAM_EXCEPTION, code, table, 0),
+        Answer::Good(address) => (GOOD, 0, Table::NONE, address),
     };
-    Packed { word: (kind as u64) << 56 | (number as u64) << 48 | units as u64, location }
+    let word = (kind as u64) << 56 | (number as u64) << 48 | (table.stage as u64) << 40 | units as u64;
+    let location = (table.address() as u64) << 32 | address as u64;
+    Packed { word, location: if kind == REFUSED { NOT_TOUCHED } else { location } }
 }
 
 pub fn check(record: &[u8]) -> u64 {

@@ -1,5 +1,6 @@
 //! Random cases with a structure: host tables, guest tables, a few blocks of instructions and their operands, laid so
-//! that most runs complete several units and many meet a boundary of document 01, or of request 1/12, on the way.
+//! that most runs complete several units and many meet a boundary of document 01, or of request 1/12, on the way; some
+//! tables are spoiled, so that walks end at each stage.
 
 use crate::model::{self, Answer, FRAME};
 
@@ -125,6 +126,7 @@ pub fn case(rng: &mut Rng, wishes: Wishes) -> Case {
     builder.lay_new_psws();
     builder.set_keys();
     builder.disturb_prefix_page();
+    builder.spoil_a_table();
     if wishes.damage && builder.rng.percent(7) {
         builder.damage();
     }
@@ -147,6 +149,8 @@ struct Builder<'a> {
     /// Origin and extent in 64 KiB blocks.
     origin: u32,
     extent: u32,
+    /// The 64 KiB block of host virtual storage from which on there are no segment entries.
+    table_end: Option<u32>,
     prefix: u32,
     host_page_tables: Vec<u32>,
     host_table_frames: Vec<u32>,
@@ -163,6 +167,8 @@ struct Builder<'a> {
     segments: Vec<u32>,
     guest_segment_table: u32,
     guest_page_tables: Vec<u32>,
+    /// The first page table is not next to the segment table.
+    tables_apart: bool,
     blocks: Vec<Block>,
     /// Host absolute places of table entries, first and last byte: instructions and operands are not laid there.
     reserved: Vec<(usize, usize)>,
@@ -220,6 +226,7 @@ impl<'a> Builder<'a> {
             frames,
             origin: 0,
             extent: 1,
+            table_end: None,
             prefix: 0,
             host_page_tables: Vec::new(),
             host_table_frames: Vec::new(),
@@ -233,6 +240,7 @@ impl<'a> Builder<'a> {
             segments: Vec::new(),
             guest_segment_table: 0,
             guest_page_tables: Vec::new(),
+            tables_apart: false,
             blocks: Vec::new(),
             reserved: Vec::new(),
             careless,
@@ -268,6 +276,13 @@ impl<'a> Builder<'a> {
             _ => self.rng.below(32_768),
         };
         self.origin = self.origin.min(most);
+        // Some extents lie across the end of the host's segment table.
+        if self.rng.percent(5) {
+            let end = if self.rng.percent(60) { 16_384 } else { 256 * self.rng.range(1, 127) };
+            self.extent = self.rng.range(2, 40);
+            self.origin = end - self.rng.range(1, self.extent - 1);
+            self.table_end = Some(end);
+        }
         self.case.record[12..14].copy_from_slice(&(self.origin as u16).to_be_bytes());
         self.case.record[14..16].copy_from_slice(&(self.extent as u16).to_be_bytes());
         // Mode: bits 4-6 are 100, the others are ignored.
@@ -280,6 +295,12 @@ impl<'a> Builder<'a> {
 
     fn extent_pages(&self) -> u32 {
         self.extent * 16
+    }
+
+    /// A guest absolute page past the end of the host's segment table.
+    fn page_past_table(&mut self) -> Option<u32> {
+        let first = 16 * (self.table_end? - self.origin);
+        Some(self.rng.range(first, self.extent_pages() - 1))
     }
 
     // -----------------------------------------------------------------------------------------------------------
@@ -296,11 +317,14 @@ impl<'a> Builder<'a> {
         } else {
             first_part.min(self.frames - 1)
         };
+        // Past 2^30 the entries are in the table's second frame, which the storage may lack.
+        let cut_by_storage = self.table_end == Some(16_384) && self.rng.percent(60);
+        let at = if cut_by_storage { self.frames - 1 } else { at };
         let table = at.saturating_sub(first_part) * 4096;
         self.host_table_frames = (at..at + parts).collect();
 
         // Page tables: mostly in a frame of their own.
-        let mut page_frame = self.rng.below(self.frames);
+        let mut page_frame = if self.rng.percent(8) { 0 } else { self.rng.below(self.frames) };
         for _ in 0..4 {
             if self.host_table_frames.contains(&page_frame) {
                 page_frame = self.rng.below(self.frames);
@@ -346,6 +370,10 @@ impl<'a> Builder<'a> {
             0..=59 => needed,
             60..=98 => self.rng.range(needed, 127),
             _ => needed.saturating_sub(1),
+        };
+        let length = match self.table_end {
+            Some(end) if !cut_by_storage => end / 256 - 1,
+            _ => length,
         };
         // Bits 0 and 20-24 are ignored.
         self.case.designation = table | length | self.rng.word() & 0x8000_0F80;
@@ -423,12 +451,25 @@ impl<'a> Builder<'a> {
             85..=89 => last,
             _ => self.rng.range(0, last.min(300)),
         };
+        let page = match self.page_past_table() {
+            Some(past) if self.rng.percent(60) => past,
+            _ => page,
+        };
         // In System/370 mode prefix bits 1-7 are zero.
         let page = if self.system_370() { page & 0xFFF } else { page };
         self.prefix = page << 12;
         // Bits 0 and 20-31 are ignored.
         let ignored = if self.rng.percent(30) { self.rng.word() & 0x8000_0FFF } else { 0 };
         model::set_word(&mut self.case.record, 8, self.prefix | ignored);
+    }
+
+    /// The absolute address: real block 0 and the prefix block are exchanged.
+    fn prefixed(&self, real: u32) -> u32 {
+        match real & 0x7FFF_F000 {
+            0 => self.prefix | real,
+            block if block == self.prefix => real & 0xFFF,
+            _ => real,
+        }
     }
 
     /// The record with a PSW of key 0 and these modes; in System/370 mode there are none.
@@ -484,15 +525,7 @@ impl<'a> Builder<'a> {
         self.guest_segment_table = table_page << 12;
         if self.rng.percent(90) {
             let frame = self.table_frame;
-            // Real block 0 and the prefix block are exchanged.
-            let absolute = if table_page == 0 {
-                self.prefix >> 12
-            } else if table_page == self.prefix >> 12 {
-                0
-            } else {
-                table_page
-            };
-            self.set_host_page(absolute, frame);
+            self.set_host_page(self.prefixed(table_page << 12) >> 12, frame);
             if table_page + 1 < pages {
                 self.set_host_page(table_page + 1, frame);
             }
@@ -502,7 +535,26 @@ impl<'a> Builder<'a> {
             0..=7 => page_table = self.rng.below(pages) * 4096 + 4096 - 64 * self.rng.range(1, 8),
             8..=9 => page_table = self.rng.word() & 0x7FFF_FFC0,
             10..=11 => page_table = (self.extent << 16).wrapping_sub(64 * self.rng.range(0, 4)) & 0x7FFF_FFC0,
+            12..=14 => page_table = 0,
+            15..=39 => {
+                // In another segment of the host, where the extent has more than one.
+                let segment = |page: u32| self.origin * 16 + page >> 8;
+                let mut page = self.rng.below(pages);
+                for _ in 0..4 {
+                    if segment(page) == segment(table_page) {
+                        page = self.rng.below(pages);
+                    }
+                }
+                self.set_host_page(self.prefixed(page << 12) >> 12, self.table_frame);
+                page_table = page << 12 | self.rng.pick(&[0, 1024, 2048]);
+                self.tables_apart = true;
+            }
             _ => {}
+        }
+        if let Some(past) = self.page_past_table() {
+            if self.rng.percent(35) {
+                page_table = past << 12;
+            }
         }
         self.guest_page_tables.push(page_table);
         if self.rng.percent(40) {
@@ -693,7 +745,16 @@ impl<'a> Builder<'a> {
 
     /// Its host absolute address.
     fn place(&self, address: u32) -> Option<usize> {
-        let record = self.record_for(self.dat, self.wide);
+        self.place_for(self.dat, self.wide, address)
+    }
+
+    /// The same of a guest real address.
+    fn real_place(&self, address: u32) -> Option<usize> {
+        self.place_for(false, true, address)
+    }
+
+    fn place_for(&self, dat: bool, wide: bool, address: u32) -> Option<usize> {
+        let record = self.record_for(dat, wide);
         let case = &self.case;
         match model::translate(&record, &case.storage, &case.keys, case.designation, address, 0) {
             Answer::Good(absolute) => Some(absolute as usize),
@@ -1368,6 +1429,108 @@ impl<'a> Builder<'a> {
             }
         }
         self.put_word(at, entry);
+    }
+
+    /// Spoils a table on the way to some address, after all has been laid: the guest's tables, or the host's for the
+    /// guest's segment entry, for its page entry or for the byte.
+    fn spoil_a_table(&mut self) {
+        let chance = if self.tables_apart && self.dat { 45 } else { 10 };
+        if !self.rng.percent(chance) {
+            return;
+        }
+        let (dat, logical) = match self.rng.below(100) {
+            0..=24 => (self.dat, self.blocks[0].address),
+            25..=34 => (self.dat, self.rng.pick(&self.bases.clone()).1),
+            35..=54 => (self.dat, self.blocks[self.rng.below(4) as usize].address),
+            // The first page of a segment: its entry is the one at zero where a table stands there.
+            55..=69 => (self.dat, self.rng.pick(&self.segments.clone()) << 20),
+            // The interruption areas and the interval timer's word.
+            _ => (false, self.rng.pick(&[32, 40, 80, 96, 104, 136])),
+        };
+        let logical = logical & if self.wide { 0x7FFF_FFFF } else { 0x00FF_FFFF };
+        self.case.addresses.extend([logical; 4]);
+        // What the host is asked for, as far as it can be had: the guest's segment entry, its page entry and the byte.
+        let mut reals = vec![logical];
+        if dat {
+            reals[0] = (model::word(&self.case.record, CR + 4) & 0x7FFF_F000) + 4 * (logical >> 20);
+            if let Some(entry) = self.real_word(reals[0]) {
+                reals.push((entry & 0x7FFF_FFC0) + 4 * (logical >> 12 & 0xFF));
+            }
+            if let Some(entry) = reals.get(1).and_then(|&real| self.real_word(real)) {
+                reals.push(entry & 0x7FFF_F000 | logical & 0xFFF);
+            }
+            if self.rng.percent(40) {
+                self.spoil_guest_tables(logical, &reals);
+                return;
+            }
+        }
+        let chance = if self.tables_apart { 75 } else { 25 };
+        let real = if reals.len() > 1 && self.rng.percent(chance) { reals[1] } else { self.rng.pick(&reals) };
+        self.spoil_host_tables(real);
+    }
+
+    /// The word at a guest real address.
+    fn real_word(&self, address: u32) -> Option<u32> {
+        self.real_place(address).map(|place| model::word(&self.case.storage, place))
+    }
+
+    /// The entries of both tables, by their real addresses as far as they can be had.
+    fn spoil_guest_tables(&mut self, logical: u32, entries: &[u32]) {
+        let places = [0, 1].map(|table| entries.get(table).and_then(|&real| self.real_place(real)));
+        let mut words = [model::word(&self.case.record, CR + 4), 0, 0];
+        for (table, place) in places.into_iter().enumerate() {
+            words[table + 1] = place.map_or(0, |place| model::word(&self.case.storage, place));
+        }
+        let words = self.spoil(words, logical, self.extent << 16);
+        model::set_word(&mut self.case.record, CR + 4, words[0]);
+        for (table, place) in places.into_iter().enumerate() {
+            if let Some(place) = place {
+                model::set_word(&mut self.case.storage, place, words[table + 1]);
+            }
+        }
+    }
+
+    fn spoil_host_tables(&mut self, real: u32) {
+        let address = (self.origin << 16).wrapping_add(self.prefixed(real)) & 0x7FFF_FFFF;
+        let segment_at = (self.case.designation & 0x7FFF_F000) + 4 * (address >> 20);
+        if segment_at as usize >= self.case.storage.len() {
+            return;
+        }
+        let segment_entry = model::word(&self.case.storage, segment_at as usize);
+        let page_at = (segment_entry & 0x7FFF_FFC0) + 4 * (address >> 12 & 0xFF);
+        if page_at as usize >= self.case.storage.len() {
+            return;
+        }
+        let page_entry = model::word(&self.case.storage, page_at as usize);
+        let words = self.spoil([self.case.designation, segment_entry, page_entry], address, self.frames << 12);
+        self.case.designation = words[0];
+        self.put_word(segment_at, words[1]);
+        self.put_word(page_at, words[2]);
+    }
+
+    /// Designation, segment entry and page entry, with one of them spoiled for the address. The limit is the extent of
+    /// the guest or the storage.
+    fn spoil(&mut self, words: [u32; 3], address: u32, limit: u32) -> [u32; 3] {
+        let [mut designation, mut segment, mut page] = words;
+        let (segment_index, page_index) = (address >> 20 & 0x7FF, address >> 12 & 0xFF);
+        match self.rng.below(20) {
+            0 if segment_index >= 16 => designation = designation & !0x7F | self.rng.below(segment_index >> 4),
+            0..=1 => designation = designation & 0x8000_0FFF | limit & 0x7FFF_F000,
+            2..=3 if page_index >= 16 => segment = segment & !15 | self.rng.below(page_index >> 4),
+            2..=7 => {
+                // Seldom just before the end.
+                let groups = (page_index >> 4) + 1 + self.rng.percent(15) as u32;
+                let before = 64 * self.rng.below(groups);
+                segment = segment & 0x8000_003F | limit - before & 0x7FFF_FFC0;
+            }
+            8..=9 => segment |= self.rng.pick(&[0x20, 0x20, 0x8000_0020]),
+            10..=12 => segment |= 0x8000_0000,
+            13..=14 => page |= self.rng.pick(&[0x400, 0x400, 0x8000_0400, 0xC00, 0x500]),
+            15..=16 => page |= self.rng.pick(&[0x8000_0000, 0x800, 0x100]),
+            17..=18 => page = page & 0xFFF | limit.wrapping_add(self.rng.pick(&[0, 0, 1, 100]) << 12) & 0x7FFF_F000,
+            _ => page |= 0x200,
+        }
+        [designation, segment, page]
     }
 
     fn set_keys(&mut self) {

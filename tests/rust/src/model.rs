@@ -1,6 +1,6 @@
-//! Check, translate and run, written from document 01 and request 1/12 of document 02 alone, and byte by byte. The
-//! headings cited are those of document 01. Bit 0 is the leftmost bit. Nothing is kept from one byte to the next, so
-//! that each sentence of the rules stands in one place.
+//! Check, translate and run, written from document 01 and requests 1/12 and 2/12 of document 02 alone, and byte by
+//! byte. The headings cited are those of document 01. Bit 0 is the leftmost bit. Nothing is kept from one byte to the
+//! next, so that each sentence of the rules stands in one place.
 
 /// An answer of check, translate or run.
 #[derive(Clone, Copy, PartialEq, Eq, Debug)]
@@ -9,14 +9,60 @@ pub enum Answer {
     Refused(u8),
     /// The interception code; of check and translate 32 alone.
     Intercepted(u8),
-    /// Program code and host virtual address.
-    HostFault(u8, u32),
+    /// Program code and host virtual address, and which table was bad.
+    HostFault(u8, u32, Table),
     /// Of run alone.
     BudgetUsed,
-    /// Of translate alone: the guest's program code.
-    ProgramException(u8),
+    /// Of translate alone: the guest's program code, and which table was bad.
+    ProgramException(u8, Table),
     /// Check: good, with 0. Translate: the host absolute address.
     Good(u32),
+}
+
+/// "the stage (guest segment, guest page, host segment, host page, none)", by their numbers.
+#[derive(Clone, Copy, PartialEq, Eq, PartialOrd, Ord, Debug)]
+pub enum Stage {
+    None,
+    GuestSegment,
+    GuestPage,
+    HostSegment,
+    HostPage,
+}
+
+/// Which table was bad: the one whose entry was sought when the walk ended.
+#[derive(Clone, Copy, PartialEq, Eq, Debug)]
+pub struct Table {
+    pub stage: Stage,
+    /// "the address of the entry involved, guest real or host absolute", if it was read.
+    pub entry: Option<u32>,
+}
+
+impl Table {
+    pub const NONE: Table = Table { stage: Stage::None, entry: None };
+
+    pub fn unread(stage: Stage) -> Table {
+        Table { stage, entry: None }
+    }
+
+    pub fn read(stage: Stage, address: u32) -> Table {
+        Table { stage, entry: Some(address) }
+    }
+
+    /// "zero when that entry was not read"
+    pub fn address(self) -> u32 {
+        self.entry.unwrap_or(0)
+    }
+}
+
+/// What the host's tables were walked for. No part of an answer: for the tally.
+#[derive(Clone, Copy, PartialEq, Eq, PartialOrd, Ord, Debug)]
+pub enum Walk {
+    GuestSegmentEntry,
+    GuestPageEntry,
+    /// A byte of text or of an operand, or the one asked for.
+    Byte,
+    /// A byte of an interruption area, or of the interval timer's word.
+    Area,
 }
 
 /// The end of a run.
@@ -35,6 +81,8 @@ pub struct Events {
     pub falls: u32,
     pub turns: u32,
     pub fault_at_word: bool,
+    /// The walk of the host fault that ended the run.
+    pub walk: Option<Walk>,
 }
 
 pub const SVC_INTERRUPTION: u8 = 0xFF;
@@ -309,10 +357,25 @@ pub enum Access {
 /// Why an access cannot be made.
 #[derive(Clone, Copy, PartialEq, Eq, Debug)]
 enum Failure {
-    /// Program code; for 10 and 11 hex the virtual address with its last 12 bits zero, else 0.
-    Guest(u8, u32),
-    /// Program code and host virtual address.
-    Host(u8, u32),
+    /// Program code; for 10 and 11 hex the virtual address with its last 12 bits zero, else 0; the table.
+    Guest(u8, u32, Table),
+    Host(Fault),
+}
+
+/// A host fault.
+#[derive(Clone, Copy, PartialEq, Eq, Debug)]
+struct Fault {
+    code: u8,
+    /// Host virtual; of a guest table's entry that the host cannot give, that of the guest's entry.
+    address: u32,
+    table: Table,
+    walk: Walk,
+}
+
+impl Fault {
+    fn answer(self) -> Answer {
+        Answer::HostFault(self.code, self.address, self.table)
+    }
 }
 
 /// What the accesses of one unit look at: all as it was when the unit began.
@@ -324,42 +387,48 @@ struct View<'a> {
 }
 
 impl View<'_> {
-    /// The host tables: the host absolute address and whether the host page is protected, else the program code.
-    fn host_translate(&self, address: u32) -> Result<(u32, bool), u8> {
+    /// The host tables: the host absolute address and whether the host page is protected, else the program code and the
+    /// table.
+    fn host_translate(&self, address: u32) -> Result<(u32, bool), (u8, Table)> {
         let segment_index = address >> 20 & 0x7FF;
         let page_index = address >> 12 & 0xFF;
+        let mut table = Table::unread(Stage::HostSegment);
         if segment_index >> 4 > self.designation & 0x7F {
-            return Err(SEGMENT_TRANSLATION);
+            return Err((SEGMENT_TRANSLATION, table));
         }
-        let segment_entry = self.host_word((self.designation & 0x7FFF_F000) + 4 * segment_index)?;
+        let segment_entry = self.host_word((self.designation & 0x7FFF_F000) + 4 * segment_index, &mut table)?;
         if bit(segment_entry, 26) {
-            return Err(SEGMENT_TRANSLATION);
+            return Err((SEGMENT_TRANSLATION, table));
         }
         if bit(segment_entry, 0) {
-            return Err(TRANSLATION_SPECIFICATION);
+            return Err((TRANSLATION_SPECIFICATION, table));
         }
+        // The page index over the length: no page entry is read, whatever was read before.
+        let mut table = Table::unread(Stage::HostPage);
         if page_index >> 4 > segment_entry & 0xF {
-            return Err(PAGE_TRANSLATION);
+            return Err((PAGE_TRANSLATION, table));
         }
-        let page_entry = self.host_word((segment_entry & 0x7FFF_FFC0) + 4 * page_index)?;
+        let page_entry = self.host_word((segment_entry & 0x7FFF_FFC0) + 4 * page_index, &mut table)?;
         if bit(page_entry, 21) {
-            return Err(PAGE_TRANSLATION);
+            return Err((PAGE_TRANSLATION, table));
         }
         if bit(page_entry, 0) || bit(page_entry, 20) || bit(page_entry, 23) {
-            return Err(TRANSLATION_SPECIFICATION);
+            return Err((TRANSLATION_SPECIFICATION, table));
         }
+        // "A host frame beyond storage is host page": its entry was read.
         let absolute = (page_entry & 0x7FFF_F000) + (address & 0xFFF);
         if absolute as usize >= self.storage.len() {
-            return Err(ADDRESSING);
+            return Err((ADDRESSING, table));
         }
         Ok((absolute, bit(page_entry, 22)))
     }
 
-    /// A word of a host table: "or 5 beyond the storage".
-    fn host_word(&self, address: u32) -> Result<u32, u8> {
+    /// A word of a host table: "or 5 beyond the storage". The table is told where its entry was read.
+    fn host_word(&self, address: u32, table: &mut Table) -> Result<u32, (u8, Table)> {
         if address as usize >= self.storage.len() {
-            return Err(ADDRESSING);
+            return Err((ADDRESSING, *table));
         }
+        table.entry = Some(address);
         Ok(word(self.storage, address as usize))
     }
 
@@ -376,18 +445,25 @@ impl View<'_> {
     }
 
     /// A guest real address, up to its host page: host absolute address and whether the host page is protected.
-    fn real_to_host(&self, real: u32) -> Result<(u32, bool), Failure> {
+    fn real_to_host(&self, real: u32, walk: Walk) -> Result<(u32, bool), Failure> {
         if real as u64 >= extent_bytes(self.record) {
-            return Err(Failure::Guest(ADDRESSING, 0));
+            return Err(Failure::Guest(ADDRESSING, 0, Table::NONE));
         }
-        let host_address = origin_bytes(self.record) + self.prefixed(real);
-        self.host_translate(host_address).map_err(|code| Failure::Host(code, host_address))
+        let address = origin_bytes(self.record) + self.prefixed(real);
+        self.host_translate(address).map_err(|(code, table)| Failure::Host(Fault { code, address, table, walk }))
     }
 
-    /// An entry of a guest table. Keys and host page protection do not guard it.
-    fn guest_table_word(&self, real: u32) -> Result<u32, Failure> {
-        let (absolute, _) = self.real_to_host(real)?;
-        Ok(word(self.storage, absolute as usize))
+    /// An entry of a guest table. Keys and host page protection do not guard it. Past the extent it is no final address
+    /// and belongs to its table; where the host cannot give it, the bad table is the host's.
+    fn guest_word(&self, real: u32, table: &mut Table, walk: Walk) -> Result<u32, Failure> {
+        match self.real_to_host(real, walk) {
+            Ok((absolute, _)) => {
+                table.entry = Some(real);
+                Ok(word(self.storage, absolute as usize))
+            }
+            Err(Failure::Guest(code, address, _)) => Err(Failure::Guest(code, address, *table)),
+            Err(failure) => Err(failure),
+        }
     }
 
     /// The guest's tables: the real address and whether the guest page is protected.
@@ -400,64 +476,75 @@ impl View<'_> {
         let page_address = logical & 0x7FFF_F000;
         // "CR0 bits 8-12 must be 10110"
         if control_register(self.record, 0) >> 19 & 0x1F != 0b10110 {
-            return Err(Failure::Guest(TRANSLATION_SPECIFICATION, 0));
+            return Err(Failure::Guest(TRANSLATION_SPECIFICATION, 0, Table::NONE));
         }
         let segment_index = logical >> 20 & 0x7FF;
         let page_index = logical >> 12 & 0xFF;
         let designation = control_register(self.record, 1);
+        let mut table = Table::unread(Stage::GuestSegment);
         if segment_index >> 4 > designation & 0x7F {
-            return Err(Failure::Guest(SEGMENT_TRANSLATION, page_address));
+            return Err(Failure::Guest(SEGMENT_TRANSLATION, page_address, table));
         }
-        let segment_entry = self.guest_table_word((designation & 0x7FFF_F000) + 4 * segment_index)?;
+        let segment_at = (designation & 0x7FFF_F000) + 4 * segment_index;
+        let segment_entry = self.guest_word(segment_at, &mut table, Walk::GuestSegmentEntry)?;
         if bit(segment_entry, 26) {
-            return Err(Failure::Guest(SEGMENT_TRANSLATION, page_address));
+            return Err(Failure::Guest(SEGMENT_TRANSLATION, page_address, table));
         }
         if bit(segment_entry, 0) {
-            return Err(Failure::Guest(TRANSLATION_SPECIFICATION, 0));
+            return Err(Failure::Guest(TRANSLATION_SPECIFICATION, 0, table));
         }
+        let mut table = Table::unread(Stage::GuestPage);
         if page_index >> 4 > segment_entry & 0xF {
-            return Err(Failure::Guest(PAGE_TRANSLATION, page_address));
+            return Err(Failure::Guest(PAGE_TRANSLATION, page_address, table));
         }
-        let page_entry = self.guest_table_word((segment_entry & 0x7FFF_FFC0) + 4 * page_index)?;
+        let page_at = (segment_entry & 0x7FFF_FFC0) + 4 * page_index;
+        let page_entry = self.guest_word(page_at, &mut table, Walk::GuestPageEntry)?;
         if bit(page_entry, 21) {
-            return Err(Failure::Guest(PAGE_TRANSLATION, page_address));
+            return Err(Failure::Guest(PAGE_TRANSLATION, page_address, table));
         }
         if bit(page_entry, 0) || bit(page_entry, 20) || bit(page_entry, 23) {
-            return Err(Failure::Guest(TRANSLATION_SPECIFICATION, 0));
+            return Err(Failure::Guest(TRANSLATION_SPECIFICATION, 0, table));
         }
         Ok(((page_entry & 0x7FFF_F000) + (logical & 0xFFF), bit(page_entry, 22)))
     }
 
-    /// All tests of one byte, in the order of "Addresses". The answer is its host absolute address.
+    /// All tests of one byte, in the order of "Addresses". The answer is its host absolute address. Protections, a bad
+    /// CR0 and a final address past the extent "are none and zero".
     fn access(&self, address: u32, access: Access) -> Result<u32, Failure> {
         let logical = wrap(self.record, address);
         if access == Access::Store && logical <= 511 && bit(control_register(self.record, 0), 3) {
-            return Err(Failure::Guest(PROTECTION, 0));
+            return Err(Failure::Guest(PROTECTION, 0, Table::NONE));
         }
         let (real, guest_protected) = self.guest_translate(logical)?;
-        let (absolute, host_protected) = self.real_to_host(real)?;
+        let (absolute, host_protected) = self.real_to_host(real, Walk::Byte)?;
         if access == Access::Store && guest_protected {
-            return Err(Failure::Guest(PROTECTION, 0));
+            return Err(Failure::Guest(PROTECTION, 0, Table::NONE));
         }
         // "access key nonzero and different from key bits 0-3: stores, and fetches if bit 4 is one"
         let access_key = self.record[PSW + 1] >> 4;
         let storage_key = self.keys[absolute as usize / FRAME];
         if access_key != 0 && access_key != storage_key >> 4 {
             if access == Access::Store || storage_key & 0x08 != 0 {
-                return Err(Failure::Guest(PROTECTION, 0));
+                return Err(Failure::Guest(PROTECTION, 0, Table::NONE));
             }
         }
         if access == Access::Store && host_protected {
-            return Err(Failure::Host(PROTECTION, origin_bytes(self.record) + self.prefixed(real)));
+            return Err(self.host_protection(real, Walk::Byte));
         }
         Ok(absolute)
     }
 
+    /// Host page protection is of no table: its stage is none.
+    fn host_protection(&self, real: u32, walk: Walk) -> Failure {
+        let address = origin_bytes(self.record) + self.prefixed(real);
+        Failure::Host(Fault { code: PROTECTION, address, table: Table::NONE, walk })
+    }
+
     /// A byte of an interruption area: "These skip keys and low-address protection". It is a real address.
     fn area_access(&self, real: u32, access: Access) -> Result<u32, Failure> {
-        let (absolute, host_protected) = self.real_to_host(real)?;
+        let (absolute, host_protected) = self.real_to_host(real, Walk::Area)?;
         if access == Access::Store && host_protected {
-            return Err(Failure::Host(PROTECTION, origin_bytes(self.record) + self.prefixed(real)));
+            return Err(self.host_protection(real, Walk::Area));
         }
         Ok(absolute)
     }
@@ -620,7 +707,7 @@ enum Instruction {
     SupervisorCall { number: u8 },
     /// Interception code 4.
     Intercepted { ilc: u8, text: Vec<u8> },
-    HostFault(u8, u32),
+    HostFault(Fault),
 }
 
 /// "Order: odd address, all halfwords fetched, operation, privilege, interception, alignment, operand accesses".
@@ -646,8 +733,8 @@ fn instruction(view: &View, unit: &mut Unit, clock: u64) -> Instruction {
                 text.extend(view.fetch(&places));
                 unit.mark(&places, false);
             }
-            Err(Failure::Guest(code, address)) => return exception(code, ilc, address, &text),
-            Err(Failure::Host(code, address)) => return Instruction::HostFault(code, address),
+            Err(Failure::Guest(code, address, _)) => return exception(code, ilc, address, &text),
+            Err(Failure::Host(fault)) => return Instruction::HostFault(fault),
         }
         if fetched == 0 {
             ilc = halfwords(text[0]);
@@ -665,8 +752,8 @@ fn instruction(view: &View, unit: &mut Unit, clock: u64) -> Instruction {
     }
     match execute(view, unit, clock, operation, &text) {
         Ok(ending) => ending,
-        Err(Failure::Guest(code, address)) => exception(code, ilc, address, &text),
-        Err(Failure::Host(code, address)) => Instruction::HostFault(code, address),
+        Err(Failure::Guest(code, address, _)) => exception(code, ilc, address, &text),
+        Err(Failure::Host(fault)) => Instruction::HostFault(fault),
     }
 }
 
@@ -712,7 +799,7 @@ fn execute(
     let record = view.record;
     let first = (text[1] >> 4) as usize;
     let second = (text[1] & 0xF) as usize;
-    let specification = Err(Failure::Guest(SPECIFICATION, 0));
+    let specification = Err(Failure::Guest(SPECIFICATION, 0, Table::NONE));
     advance(&mut unit.record, halfwords(text[0]));
     match operation {
         Operation::LoadRegister => {
@@ -725,7 +812,7 @@ fn execute(
             set_general_register(&mut unit.record, first, result);
             set_condition_code(&mut unit.record, code);
             if overflow && overflow_is_enabled(record) {
-                return Err(Failure::Guest(FIXED_POINT_OVERFLOW, 0));
+                return Err(Failure::Guest(FIXED_POINT_OVERFLOW, 0, Table::NONE));
             }
         }
         Operation::BranchOnConditionRegister => {
@@ -900,7 +987,7 @@ impl Guest<'_> {
         let view = View { record, storage: self.storage, keys: self.keys, designation: self.designation };
         match instruction(&view, &mut unit, self.clock) {
             Instruction::Ended => self.complete(unit, None),
-            Instruction::HostFault(code, address) => UnitEnd::Exit(Answer::HostFault(code, address)),
+            Instruction::HostFault(fault) => self.host_fault(Failure::Host(fault)),
             Instruction::Intercepted { ilc, text } => {
                 advance(self.record, ilc);
                 self.record[RESULT_ILC] = ilc;
@@ -911,7 +998,7 @@ impl Guest<'_> {
                 let fields = [0, 1 << 1, 0, number];
                 match interrupt(&view, &mut unit, 32, 96, 136, &fields) {
                     Ok(()) => self.complete(unit, Some(SVC_INTERRUPTION)),
-                    Err(failure) => UnitEnd::Exit(host_fault(failure)),
+                    Err(failure) => self.host_fault(failure),
                 }
             }
             Instruction::Exception { code, ilc, address, text } => {
@@ -955,8 +1042,15 @@ impl Guest<'_> {
             View { record: self.record, storage: self.storage, keys: self.keys, designation: self.designation };
         match interrupt(&view, &mut unit, 40, 104, 140, &fields) {
             Ok(()) => self.complete(unit, Some(code)),
-            Err(failure) => UnitEnd::Exit(host_fault(failure)),
+            Err(failure) => self.host_fault(failure),
         }
+    }
+
+    /// The prefixed 4 KiB lie below the extent, so an interruption area can fail by a host fault only.
+    fn host_fault(&mut self, failure: Failure) -> UnitEnd {
+        let Failure::Host(fault) = failure else { unreachable!("interruption areas lie below the extent") };
+        self.events.walk = Some(fault.walk);
+        UnitEnd::Exit(fault.answer())
     }
 
     fn intercept(&mut self, code: u8) -> UnitEnd {
@@ -976,7 +1070,7 @@ impl Guest<'_> {
             Ok(places) => places,
             Err(failure) => {
                 self.events.fault_at_word = true;
-                return UnitEnd::Exit(host_fault(failure));
+                return self.host_fault(failure);
             }
         };
         self.events.interruptions.extend(interruption.map(|code| (form(self.record), code)));
@@ -1040,14 +1134,6 @@ fn interval_timer_is_active(record: &[u8]) -> bool {
     system_370(record) && record[MODE] & 0x01 == 0
 }
 
-/// The prefixed 4 KiB lie below the extent, so an interruption area can fail by a host fault only.
-fn host_fault(failure: Failure) -> Answer {
-    match failure {
-        Failure::Host(code, address) => Answer::HostFault(code, address),
-        Failure::Guest(..) => unreachable!("interruption areas lie below the extent"),
-    }
-}
-
 /// Step 3 of "Before each unit".
 fn psw_is_malformed(record: &[u8]) -> bool {
     let ones = |first: usize, last: usize| (first..=last).any(|number| psw_bit(record, number));
@@ -1080,26 +1166,38 @@ pub fn check(record: &[u8]) -> Answer {
 
 /// Translate one guest address.
 pub fn translate(record: &[u8], storage: &[u8], keys: &[u8], designation: u32, address: u32, access: u32) -> Answer {
+    translate_and_walk(record, storage, keys, designation, address, access).0
+}
+
+/// The same, with the walk of a host fault.
+pub fn translate_and_walk(
+    record: &[u8],
+    storage: &[u8],
+    keys: &[u8],
+    designation: u32,
+    address: u32,
+    access: u32,
+) -> (Answer, Option<Walk>) {
     let refusal = refuse_record(record)
         .or_else(|| refuse_storage(storage.len(), keys.len()))
         .or_else(|| refuse_reserved(record))
         .or_else(|| if access > 2 { Some(8) } else { None });
     if let Some(number) = refusal {
-        return Answer::Refused(number);
+        return (Answer::Refused(number), None);
     }
     if !entry_is_good(record) {
-        return Answer::Intercepted(32);
+        return (Answer::Intercepted(32), None);
     }
     // "In mode 01, DAT on is code 32, in translate too (it also reads PSW bit 12)".
     if form(record) == Form::Ec && psw_bit(record, 5) {
-        return Answer::Intercepted(32);
+        return (Answer::Intercepted(32), None);
     }
     let view = View { record, storage, keys, designation };
     let access = if access == 1 { Access::Store } else { Access::Fetch };
     match view.access(address, access) {
-        Ok(absolute) => Answer::Good(absolute),
-        Err(Failure::Guest(code, _)) => Answer::ProgramException(code),
-        Err(Failure::Host(code, host_address)) => Answer::HostFault(code, host_address),
+        Ok(absolute) => (Answer::Good(absolute), None),
+        Err(Failure::Guest(code, _, table)) => (Answer::ProgramException(code, table), None),
+        Err(Failure::Host(fault)) => (fault.answer(), Some(fault.walk)),
     }
 }
 
@@ -1161,9 +1259,9 @@ pub fn case_line(file: &[u8]) -> String {
     match end.answer {
         Answer::Refused(number) => format!("R {number}"),
         Answer::Intercepted(code) => format!("I {code} {}", end.units),
-        Answer::HostFault(code, _) => format!("H {code} {}", end.units),
+        Answer::HostFault(code, ..) => format!("H {code} {}", end.units),
         Answer::BudgetUsed => format!("B 0 {}", end.units),
-        Answer::ProgramException(_) | Answer::Good(_) => unreachable!("answers of translate and check"),
+        Answer::ProgramException(..) | Answer::Good(_) => unreachable!("answers of translate and check"),
     }
 }
 

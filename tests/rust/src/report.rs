@@ -2,7 +2,7 @@
 
 use crate::ffi::{self, Packed};
 use crate::generate::{Case, Machine};
-use crate::model::{Answer, Events, Form, FRAME, SVC_INTERRUPTION};
+use crate::model::{self, Answer, Form, Run, Stage, Table, Walk, FRAME, SVC_INTERRUPTION};
 use std::collections::BTreeMap;
 use std::fs;
 
@@ -96,11 +96,13 @@ pub fn show_answer(name: &str, answer: Packed) -> String {
         _ => "unknown kind",
     };
     format!(
-        "{name}: {kind} {} ({:x} hex), units {}, where {:x} hex, word {:016x}",
+        "{name}: {kind} {} ({:x} hex), units {}, stage {}, entry {:x} hex, where {:x} hex, word {:016x}",
         answer.number(),
         answer.number(),
         answer.units(),
-        answer.location,
+        answer.stage(),
+        answer.entry(),
+        answer.location as u32,
         answer.word
     )
 }
@@ -119,6 +121,70 @@ pub struct Tally {
     translations: BTreeMap<(u32, u32), u64>,
     /// Of System/370 mode alone, by name.
     events: BTreeMap<&'static str, u64>,
+    /// Which table was bad, in translate's failures and in host faults of runs.
+    failures: BTreeMap<Failure, u64>,
+    /// Entries at zero, and guest entries whose real address is not the absolute one.
+    entries: BTreeMap<(&'static str, Stage), u64>,
+}
+
+/// The walk, the stage, whether the entry was read, and the program code.
+type Failure = (&'static str, Stage, bool, u32);
+
+/// Walks by name: the first of translate's program exceptions, then translate's host walks, then those of runs.
+const GUEST: &str = "translate, guest";
+const TRANSLATE_SEGMENT: &str = "translate, host for a guest segment entry";
+const TRANSLATE_PAGE: &str = "translate, host for a guest page entry";
+const TRANSLATE_BYTE: &str = "translate, host for the byte";
+const RUN_SEGMENT: &str = "run, host for a guest segment entry";
+const RUN_PAGE: &str = "run, host for a guest page entry";
+const RUN_BYTE: &str = "run, host for a byte";
+const RUN_AREA: &str = "run, host for an interruption area";
+const RUN_WORD: &str = "run, host for the interval timer's word";
+
+/// Entries by name: bad ones, and guest entries that the host cannot give.
+const TRANSLATE_ZERO: &str = "translate, entry at zero";
+const RUN_ZERO: &str = "run, entry at zero";
+const MOVED: &str = "translate, entry moved by prefixing";
+const TRANSLATE_MOVED: &str = "translate, host for an entry moved by prefixing";
+const RUN_MOVED: &str = "run, host for an entry moved by prefixing";
+
+/// What a program exception of translate can be; without DAT only the first two.
+const GUEST_FAILURES: [(Stage, bool, u32); 11] = [
+    (Stage::None, false, 0x04),
+    (Stage::None, false, 0x05),
+    (Stage::None, false, 0x12),
+    (Stage::GuestSegment, false, 0x05),
+    (Stage::GuestSegment, false, 0x10),
+    (Stage::GuestSegment, true, 0x10),
+    (Stage::GuestSegment, true, 0x12),
+    (Stage::GuestPage, false, 0x05),
+    (Stage::GuestPage, false, 0x11),
+    (Stage::GuestPage, true, 0x11),
+    (Stage::GuestPage, true, 0x12),
+];
+
+/// What a host walk can end with; for a guest's entry not the first, which is host page protection.
+const HOST_FAILURES: [(Stage, bool, u32); 10] = [
+    (Stage::None, false, 0x04),
+    (Stage::HostSegment, false, 0x05),
+    (Stage::HostSegment, false, 0x10),
+    (Stage::HostSegment, true, 0x10),
+    (Stage::HostSegment, true, 0x12),
+    (Stage::HostPage, false, 0x05),
+    (Stage::HostPage, false, 0x11),
+    (Stage::HostPage, true, 0x05),
+    (Stage::HostPage, true, 0x11),
+    (Stage::HostPage, true, 0x12),
+];
+
+fn stage_name(stage: Stage) -> &'static str {
+    match stage {
+        Stage::None => "none",
+        Stage::GuestSegment => "guest segment",
+        Stage::GuestPage => "guest page",
+        Stage::HostSegment => "host segment",
+        Stage::HostPage => "host page",
+    }
 }
 
 /// What must occur in System/370 mode.
@@ -142,11 +208,26 @@ impl Tally {
             interruptions: BTreeMap::new(),
             translations: BTreeMap::new(),
             events: BTreeMap::new(),
+            failures: BTreeMap::new(),
+            entries: BTreeMap::new(),
         }
     }
 
-    /// The end of a run, with the record it left and what happened on the way.
-    pub fn run(&mut self, end: Packed, record: &[u8], events: &Events) {
+    /// The end of a run, with the record it left.
+    pub fn run(&mut self, end: &Run, record: &[u8]) {
+        let events = &end.events;
+        if let Answer::HostFault(code, address, table) = end.answer {
+            let name = match events.walk {
+                Some(Walk::GuestSegmentEntry) => RUN_SEGMENT,
+                Some(Walk::GuestPageEntry) => RUN_PAGE,
+                Some(Walk::Area) if events.fault_at_word => RUN_WORD,
+                Some(Walk::Area) => RUN_AREA,
+                _ => RUN_BYTE,
+            };
+            self.failure(name, RUN_ZERO, code, table);
+            self.guest_entry(RUN_MOVED, events.walk, record, address);
+        }
+        let end = ffi::pack(end.answer, end.units);
         self.ends.entry((end.kind(), end.number())).or_default().push(end.units());
         if end.kind() == ffi::INTERCEPTED && end.number() == 8 {
             *self.intercepted_programs.entry(record[55] as u32).or_default() += 1;
@@ -184,10 +265,79 @@ impl Tally {
         }
     }
 
-    pub fn translation(&mut self, answer: Answer) {
+    /// An answer of translate for the record, with the walk of a host fault.
+    pub fn translation(&mut self, (answer, walk): (Answer, Option<Walk>), record: &[u8]) {
+        match answer {
+            Answer::HostFault(code, address, table) => {
+                let name = match walk {
+                    Some(Walk::GuestSegmentEntry) => TRANSLATE_SEGMENT,
+                    Some(Walk::GuestPageEntry) => TRANSLATE_PAGE,
+                    _ => TRANSLATE_BYTE,
+                };
+                self.failure(name, TRANSLATE_ZERO, code, table);
+                self.guest_entry(TRANSLATE_MOVED, walk, record, address);
+            }
+            Answer::ProgramException(code, table) => {
+                self.failure(GUEST, TRANSLATE_ZERO, code, table);
+                if table.entry.is_some_and(|entry| is_moved(record, entry)) {
+                    *self.entries.entry((MOVED, table.stage)).or_default() += 1;
+                }
+            }
+            _ => {}
+        }
         let packed = ffi::pack(answer, 0);
         *self.translations.entry((packed.kind(), packed.number())).or_default() += 1;
         self.check(answer);
+    }
+
+    fn failure(&mut self, name: &'static str, zero: &'static str, code: u8, table: Table) {
+        *self.failures.entry((name, table.stage, table.entry.is_some(), code as u32)).or_default() += 1;
+        if table.entry == Some(0) {
+            *self.entries.entry((zero, table.stage)).or_default() += 1;
+        }
+    }
+
+    /// A guest entry that the host cannot give, where prefixing moves it.
+    fn guest_entry(&mut self, name: &'static str, walk: Option<Walk>, record: &[u8], address: u32) {
+        let stage = match walk {
+            Some(Walk::GuestSegmentEntry) => Stage::GuestSegment,
+            Some(Walk::GuestPageEntry) => Stage::GuestPage,
+            _ => return,
+        };
+        if is_moved(record, address - model::origin_bytes(record)) {
+            *self.entries.entry((name, stage)).or_default() += 1;
+        }
+    }
+
+    /// The failures that must occur: all that can.
+    fn owed_failures(&self) -> Vec<Failure> {
+        let mut owed = Vec::new();
+        let mut owe = |name: &'static str, list: &[(Stage, bool, u32)]| {
+            owed.extend(list.iter().map(|&(stage, read, code)| (name, stage, read, code)));
+        };
+        if self.machine == Machine::System370 {
+            owe(GUEST, &GUEST_FAILURES[..2]);
+            owe(RUN_WORD, &HOST_FAILURES);
+        } else {
+            owe(GUEST, &GUEST_FAILURES);
+            for name in [TRANSLATE_SEGMENT, TRANSLATE_PAGE, RUN_SEGMENT, RUN_PAGE] {
+                owe(name, &HOST_FAILURES[1..]);
+            }
+        }
+        for name in [TRANSLATE_BYTE, RUN_BYTE, RUN_AREA] {
+            owe(name, &HOST_FAILURES);
+        }
+        owed
+    }
+
+    /// The entries that must occur.
+    fn owed_entries(&self) -> Vec<(&'static str, Stage)> {
+        let (guest, host) = ([Stage::GuestSegment, Stage::GuestPage], [Stage::HostSegment, Stage::HostPage]);
+        let mut owed = vec![(TRANSLATE_ZERO, host), (RUN_ZERO, host)];
+        if self.machine != Machine::System370 {
+            owed.extend([TRANSLATE_ZERO, MOVED, TRANSLATE_MOVED, RUN_MOVED].map(|name| (name, guest)));
+        }
+        owed.into_iter().flat_map(|(name, stages)| stages.map(|stage| (name, stage))).collect()
     }
 
     pub fn print(&mut self) {
@@ -239,6 +389,37 @@ impl Tally {
         for (name, count) in &self.events {
             println!("{name}: {count}");
         }
+        self.print_failures();
+    }
+
+    /// A line for each walk: stages, and program codes with their counts.
+    fn print_failures(&self) {
+        let mut last = ("", Stage::None, false);
+        print!("which table was bad:");
+        for (&(name, stage, read, code), count) in &self.failures {
+            if name != last.0 {
+                print!("\n  {name}:");
+            }
+            if (name, stage, read) != last {
+                let state = match (stage, read) {
+                    (Stage::None, _) => "",
+                    (_, true) => " read",
+                    (_, false) => " not read",
+                };
+                print!(" {}{state}", stage_name(stage));
+            }
+            print!(" {code:x}:{count}");
+            last = (name, stage, read);
+        }
+        let mut last = "";
+        for (&(name, stage), count) in &self.entries {
+            if name != last {
+                print!("\n  {name}:");
+            }
+            print!(" {} {count}", stage_name(stage));
+            last = name;
+        }
+        println!();
     }
 
     /// What had to occur and never did.
@@ -278,8 +459,26 @@ impl Tally {
                 missing.push(name.to_string());
             }
         }
+        for owed in self.owed_failures() {
+            if !self.failures.contains_key(&owed) {
+                let (name, stage, read, code) = owed;
+                let state = if read { "read" } else { "not read" };
+                missing.push(format!("{name}: stage {}, {state}, {code:x} hex", stage_name(stage)));
+            }
+        }
+        for owed in self.owed_entries() {
+            if !self.entries.contains_key(&owed) {
+                missing.push(format!("{}: {}", owed.0, stage_name(owed.1)));
+            }
+        }
         missing
     }
+}
+
+/// Whether prefixing moves the address: in block 0 or in the prefix block, where they are not the same.
+fn is_moved(record: &[u8], address: u32) -> bool {
+    let prefix = model::prefix(record);
+    prefix != 0 && [0, prefix].contains(&(address & 0x7FFF_F000))
 }
 
 fn print_units(name: &str, units: &mut [u32]) {

@@ -1,8 +1,11 @@
 //! Request 1/12 of document 02, sentence by sentence, with values worked by hand: by the model, and by the library
 //! where it takes the record.
 
+mod both;
+
+use both::{runs, translates};
 use drevokas_tests::generate::Case;
-use drevokas_tests::model::{self, Answer};
+use drevokas_tests::model::{self, Answer, Stage, Table};
 use drevokas_tests::{ffi, report};
 
 const MODE: usize = 4;
@@ -45,27 +48,6 @@ fn guest(psw: [u8; 8], text: &[u8]) -> Case {
 fn checks(case: &Case, answer: Answer) {
     assert_eq!(model::check(&case.record), answer);
     assert_eq!(ffi::check(&case.record), ffi::pack(answer, 0).word);
-}
-
-fn translates(case: &Case, address: u32, access: u32, answer: Answer) {
-    let Case { record, storage, keys, designation, .. } = case;
-    assert_eq!(model::translate(record, storage, keys, *designation, address, access), answer);
-    let given = ffi::translate(record, storage, keys, *designation, address, access);
-    assert_eq!(given, ffi::pack(answer, 0));
-}
-
-/// Runs the case and answers what is left.
-fn runs(case: &Case, answer: Answer, units: u32) -> Case {
-    let mut left = case.clone();
-    let Case { record, storage, keys, designation, clock, time, budget, .. } = &mut left;
-    let end = model::run(record, storage, keys, *designation, *clock, *time, *budget);
-    assert_eq!((end.answer, end.units), (answer, units));
-    let mut other = case.clone();
-    let Case { record, storage, keys, designation, clock, time, budget, .. } = &mut other;
-    let given = ffi::run(record, storage, keys, *designation, *clock, *time, *budget);
-    assert_eq!(given, ffi::pack(answer, units));
-    assert!(left.record == other.record && left.storage == other.storage && left.keys == other.keys);
-    left
 }
 
 /// Runs the case, which must complete its budget.
@@ -643,7 +625,7 @@ fn exits_and_faults_add_nothing() {
     let mut case = guest(EC, &[0x58, 0x10, 0x20, 0x00]);
     set_register(&mut case, 2, 0x4000);
     about_to_fall(&mut case, 0);
-    let left = runs(&case, Answer::HostFault(0x11, 0x4000), 0);
+    let left = runs(&case, Answer::HostFault(0x11, 0x4000, Table::read(Stage::HostPage, 0x2010)), 0);
     assert!(left.record == case.record && left.storage == case.storage && left.keys == case.keys);
 }
 
@@ -878,7 +860,8 @@ fn host_fault_at_the_word_undoes_the_unit() {
         set_register(&mut case, 2, 0x2100);
         about_to_fall(&mut case, 0);
         model::set_word(&mut case.storage, 0x2000, entry);
-        let left = runs(&case, Answer::HostFault(code, 80), 0);
+        let table = if code == 4 { Table::NONE } else { Table::read(Stage::HostPage, 0x2000) };
+        let left = runs(&case, Answer::HostFault(code, 80, table), 0);
         assert!(left.record == case.record && left.storage == case.storage && left.keys == case.keys);
         // The table is looked at only where the word falls.
         model::set_word(&mut case.record, RESIDUE, 40_959_996);
@@ -902,12 +885,12 @@ fn address_of_that_fault() {
     model::set_word(&mut case.storage, 0x2048, 0x5200);
     model::set_word(&mut case.record, 8, 0x2000);
     about_to_fall(&mut case, 0);
-    runs(&case, Answer::HostFault(4, 0x1_2050), 0);
+    runs(&case, Answer::HostFault(4, 0x1_2050, Table::NONE), 0);
     // The areas of the unit's interruption come first: SVC's old PSW, a program's old PSW.
     set_bytes(&mut case, 0x1000, &[0x0A, 0]);
-    runs(&case, Answer::HostFault(4, 0x1_2020), 0);
+    runs(&case, Answer::HostFault(4, 0x1_2020, Table::NONE), 0);
     set_bytes(&mut case, 0x1000, &[0x00, 0]);
-    runs(&case, Answer::HostFault(4, 0x1_2028), 0);
+    runs(&case, Answer::HostFault(4, 0x1_2028, Table::NONE), 0);
 }
 
 #[test]
@@ -923,7 +906,7 @@ fn tables_of_the_unit_s_beginning() {
     }
     model::set_word(&mut case.storage, 0x2000, 0x3400);
     set_register(&mut case, 1, 0x3000);
-    runs(&case, Answer::HostFault(0x11, 80), 0);
+    runs(&case, Answer::HostFault(0x11, 80, Table::read(Stage::HostPage, 0x2000)), 0);
 }
 
 // ---------------------------------------------------------------------------------------------------------------
@@ -943,12 +926,12 @@ fn translate() {
         for access in 0..3 {
             translates(&case, 0xFF00_1234, access, Answer::Good(0x4234));
         }
-        translates(&case, 0x4000, 0, Answer::HostFault(0x11, 0x4000));
-        translates(&case, 0x1_0000, 0, Answer::ProgramException(5));
+        translates(&case, 0x4000, 0, Answer::HostFault(0x11, 0x4000, Table::read(Stage::HostPage, 0x2010)));
+        translates(&case, 0x1_0000, 0, Answer::ProgramException(5, Table::NONE));
         case.record[CR0] = 0x10;
-        translates(&case, 0x0100_01FF, 1, Answer::ProgramException(4));
+        translates(&case, 0x0100_01FF, 1, Answer::ProgramException(4, Table::NONE));
         case.record[PSW + 1] |= 0x20;
-        translates(&case, 0x1234, 1, Answer::ProgramException(4));
+        translates(&case, 0x1234, 1, Answer::ProgramException(4, Table::NONE));
         case.keys[4] = 0x20;
         translates(&case, 0x1234, 1, Answer::Good(0x4234));
     }
@@ -956,10 +939,10 @@ fn translate() {
     let mut case = in_xa_mode(&guest(BC, &[]));
     translates(&case, 0x0100_1234, 0, Answer::Good(0x4234));
     case.record[PSW + 4] = 0x80;
-    translates(&case, 0x0100_1234, 0, Answer::ProgramException(5));
+    translates(&case, 0x0100_1234, 0, Answer::ProgramException(5, Table::NONE));
     // With bit 5 one CR0 is looked at.
     case.record[PSW] = 0x04;
-    translates(&case, 0x1234, 0, Answer::ProgramException(0x12));
+    translates(&case, 0x1234, 0, Answer::ProgramException(0x12, Table::NONE));
 }
 
 // ---------------------------------------------------------------------------------------------------------------

@@ -1,7 +1,7 @@
 //! "Case file and worked examples" of document 01, by the library and by the model.
 
 use drevokas_tests::generate::Case;
-use drevokas_tests::model::{self, Answer};
+use drevokas_tests::model::{self, Answer, Stage, Table};
 use drevokas_tests::{ffi, report};
 
 /// "Setup": host designation 00001000 hex, eight frames, origin 0, extent 1, prefix 0, DAT off, key 0, bit 32 one.
@@ -50,8 +50,8 @@ fn guest_fetches() {
     let case = setup();
     translates(&case, 0, Answer::Good(12288));
     translates(&case, 4095, Answer::Good(16383));
-    translates(&case, 4096, Answer::HostFault(0x11, 4096));
-    translates(&case, 65536, Answer::ProgramException(model::ADDRESSING));
+    translates(&case, 4096, Answer::HostFault(0x11, 4096, Table::read(Stage::HostPage, 8196)));
+    translates(&case, 65536, Answer::ProgramException(model::ADDRESSING, Table::NONE));
 }
 
 #[test]
@@ -71,9 +71,11 @@ fn guest_table_length() {
     let mut case = setup();
     case.record[16] = 0x04;
     model::set_word(&mut case.record, 72, 0b10110 << 19);
-    translates(&case, 0x0100_0000, Answer::ProgramException(model::SEGMENT_TRANSLATION));
+    let segment = Table::unread(Stage::GuestSegment);
+    translates(&case, 0x0100_0000, Answer::ProgramException(model::SEGMENT_TRANSLATION, segment));
     // Past the length test: the segment table at 0 is all zeros, so page index 255 is above the length.
-    translates(&case, 0x00FF_FFFF, Answer::ProgramException(model::PAGE_TRANSLATION));
+    let page = Table::unread(Stage::GuestPage);
+    translates(&case, 0x00FF_FFFF, Answer::ProgramException(model::PAGE_TRANSLATION, page));
 }
 
 #[test]

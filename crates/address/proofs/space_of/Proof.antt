@@ -1,22 +1,23 @@
 -- The space is that of the guest and of every CPU with this PSW and these control registers.
+use mathlib.Core.Path.{refl}
 use borrow.Author.Needs.{needs}
 use Rattle.address.proofs.space_of.Statement.{statement}
 use Rattle.address.proofs.space_of.Tie as tie
 
-cast-t5 : tie.Need-cast-t5
-cast-t5 c = search needs
+cast-t6 : tie.Need-cast-t6
+cast-t6 c = search needs
 
-mul-t6 : tie.Need-mul-t6
-mul-t6 c = search needs
+mul-t7 : tie.Need-mul-t7
+mul-t7 c = search needs
 
-cast-t7 : tie.Need-cast-t7
-cast-t7 c = search needs
-
-mul-t8 : tie.Need-mul-t8
-mul-t8 c = search needs
+cast-t8 : tie.Need-cast-t8
+cast-t8 c = search needs
 
 mul-t9 : tie.Need-mul-t9
 mul-t9 c = search needs
+
+mul-t10 : tie.Need-mul-t10
+mul-t10 c = search needs
 
 addressing-left-requires : tie.Need-addressing-left-requires
 addressing-left-requires c κs = search needs
@@ -24,6 +25,7 @@ addressing-left-requires c κs = search needs
 returns : tie.Need-returns
 returns c = (
   search needs,
+  refl,
   λ x psw cr0 cr1. record {
     origin = search needs;
     extent = search needs;
@@ -36,4 +38,4 @@ returns c = (
 )
 
 pub space-of-spec : {M : Type 1} → statement M
-space-of-spec = tie.close (tie.spec cast-t5 mul-t6 cast-t7 mul-t8 mul-t9 addressing-left-requires returns)
+space-of-spec = tie.close (tie.spec cast-t6 mul-t7 cast-t8 mul-t9 mul-t10 addressing-left-requires returns)

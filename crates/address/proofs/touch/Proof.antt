@@ -21,7 +21,9 @@ place-of-requires : tie.Need-place-of-requires
 place-of-requires c κs = search needs
 
 returns : tie.Need-returns
-returns c = rw (c .place-of .ensures) (sym (c .before .locate .ensures _ _ (c .before .before .space-of .ensures .1 _ refl refl refl)))
+returns c =
+    let space = c .before .before .space-of in
+    rw (c .place-of .ensures, ← space .ensures .1) (sym (c .before .locate .ensures _ _ (space .ensures .2 _ refl refl refl)))
 
 pub touch-spec : {M : Type 1} → statement M
 touch-spec =

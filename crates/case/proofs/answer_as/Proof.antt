@@ -1,7 +1,8 @@
 -- `case::answer_as` meets its contract.
 -- Assumes nothing.
 use borrow.Author.Needs.{needs}
-use mathlib.Core.Path.{ap, sym, _∙_}
+use mathlib.Core.Path.{sym, _∙_}
+use Rattle.machine.specs.Answers.{stageNumber}
 use Rattle.packing.specs.Packing.{packedAnswer}
 use Rattle.cases.proofs.CaseFiles.{malformed-answer}
 use Rattle.case.proofs.answer_as.Statement.{statement}
@@ -19,8 +20,8 @@ run-parts-requires c κs =
     sym (back4 .pre) ∙ c .before .c .given .1
 
 returns : tie.Need-returns
-unfolding packedAnswer
-returns c = ap packedAnswer (sym (malformed-answer _ (sym (c .before .before .before .pre) ∙ c .enum-told .given .1)))
+unfolding packedAnswer stageNumber
+returns c = rw (malformed-answer _ (sym (c .before .before .before .pre) ∙ c .enum-told .given .1))
 
 returns-2 : tie.Need-returns-2
 returns-2 c = search needs

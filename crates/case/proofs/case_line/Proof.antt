@@ -17,7 +17,7 @@ same-length : tie.Need-same-length
 same-length c = search needs
 
 returns : tie.Need-returns
-returns c = (c .before .before .put-line .ensures .0, c .before .before .put-line .ensures .1 ∙ ap packedLine (c .before .before .before .run-case .ensures) ∙ line-of-case _)
+returns c = (c .before .before .put-line .ensures .0, c .before .before .put-line .ensures .1 ∙ ap packedLine (c .before .before .before .run-case .ensures) ∙ line-of-case _ _)
 
 pub case-line-spec : {M : Type 1} → statement M
 case-line-spec = tie.close (tie.spec run-case-requires put-line-requires same-length returns)

@@ -56,11 +56,8 @@ returns c =
     let size = keys .before in
     let parts = size .before in
     let start = parts .before .before in
-    c .before .before .before .drevokas-run .ensures .answer
-    ∙ ap packedAnswer
-    (run-of-parts _ _ _ (start .pre) (ap (λ n. take n (parts .record-of .result)) (size .record-size .ensures) ∙ parts .record-of .ensures .1)
-    (frames .storage-of .ensures .1)
-    (keys .keys-of .ensures .1))
+    let same = run-of-parts _ _ _ (start .pre) (ap (λ n. take n (parts .record-of .result)) (size .record-size .ensures) ∙ parts .record-of .ensures .1) (frames .storage-of .ensures .1) (keys .keys-of .ensures .1) in
+    c .before .before .before .drevokas-run .ensures .answer ∙ (λ i. packedAnswer (same .0 i) (same .1 i))
 
 pub run-parts-spec : {M : Type 1} → statement M
 run-parts-spec =

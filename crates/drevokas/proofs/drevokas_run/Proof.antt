@@ -11,6 +11,9 @@ run-verdict-requires c κs = search needs
 run-as-requires : tie.Need-run-as-requires
 run-as-requires c κs = search needs
 
+table-of-requires : tie.Need-table-of-requires
+table-of-requires c κs = search needs
+
 place-after-run-requires : tie.Need-place-after-run-requires
 place-after-run-requires c κs = search needs
 
@@ -28,9 +31,11 @@ same-length-3 c = search needs
 
 returns : tie.Need-returns
 returns c =
-    let back9 = c .before .before .before .before .before .before .before .before .before in
-    let back13 = back9 .before .before .before .before in
-    run-packed _ _ _ _ (back13 .run-verdict .result) (back13 .run-verdict .ensures) (back9 .run-as .result) (back9 .run-as .ensures) _ (c .pack-answer .ensures) (c .before .place-after-run .ensures)
+    let back3 = c .before .before .before in
+    let back11 = back3 .before .before .before .before .before .before .before .before in
+    let back15 = back11 .before .before .before .before in
+    run-packed _ _ _ _ (back15 .run-verdict .result) (back15 .run-verdict .ensures) (back11 .run-as .result) (back11 .run-as .ensures)
+    (back3 .table-of .result) (back3 .table-of .ensures) _ (c .pack-answer .ensures) (c .before .place-after-run .ensures)
 
 pub drevokas-run-spec : {M : Type 1} → statement M
 drevokas-run-spec =
@@ -38,6 +43,7 @@ drevokas-run-spec =
     (tie.spec
     run-verdict-requires
     run-as-requires
+    table-of-requires
     place-after-run-requires
     pack-answer-requires
     same-length

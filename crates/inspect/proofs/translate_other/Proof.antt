@@ -1,11 +1,12 @@
 -- `inspect::translate_other` meets its contract. Code 32 where entry fails or DAT is on in a System/370 guest; else the byte is looked for.
 -- Assumes nothing.
+use mathlib.Core.Path.{sym, _∙_}
 use borrow.Author.Needs.{needs}
-use mathlib.Core.Path.{ap, sym, _∙_}
-use borrow.Author.Tests.{not-true, not-false}
+use borrow.Author.Tests.{lt-ltb, not-true, not-false}
 use Rattle.machine.specs.Record.{cpuOf}
 use Rattle.machine.specs.Operations.{translatedAs}
 use Rattle.storage.proofs.Entering.{entered}
+use Rattle.address.specs.Locating.{placeIn}
 use Rattle.inspect.specs.Answering.{answered}
 use Rattle.inspect.proofs.Accepting.{translated-length, translated-long, translated-keys, answered-is, wrapped-is}
 use Rattle.inspect.proofs.translate_other.Statement.{statement}
@@ -57,15 +58,39 @@ wrapped-requires c κs = search needs
 locate-requires : tie.Need-locate-requires
 locate-requires c κs = (c .before .space-of .ensures .0, translated-keys _ _ _ _ (c .before .before .before .before .before .before .before .before .before .before .before .before .before .before .pre))
 
-place-of-requires : tie.Need-place-of-requires
-place-of-requires c κs = search needs
-
-answer-requires : tie.Need-answer-requires
-answer-requires c κs = search needs
+cast-t25 : tie.Need-cast-t25
+cast-t25 c = search needs
 
 returns-3 : tie.Need-returns-3
-unfolding translatedAs
+unfolding translatedAs answered placeIn
 returns-3 c =
+    let space = c .before .before .before in
+    let controls = space .before .before .before .table-controls in
+    let dat = space .before .before .before .before in
+    let psw = dat .before .before .psw-of in
+    let good = dat .before .before .before in
+    let guest = good .before .before .guest-of in
+    let start = good .before .before .before .before .before .before in
+    let found = c .before .locate .ensures (guest .result) (cpuOf (start .args .r .now)) (space .space-of .ensures .2 _ (psw .ensures) (controls .ensures .0) (controls .ensures .1)) in
+    rw (
+      ← guest .ensures,
+      ← good .before .entry-good .ensures,
+      not-false (good .before .entry-good .result) (good .if1 .left),
+      ← dat .before .translates .ensures (cpuOf (start .args .r .now)) (psw .ensures),
+      not-false (dat .before .translates .result) (dat .if2 .left),
+      answered-is,
+      ← wrapped-is (cpuOf (start .args .r .now)) (psw .result) (start .args .a) _ (psw .ensures) (c .before .before .wrapped .ensures),
+      ← space .space-of .ensures .1,
+      found,
+      lt-ltb _ _ (c .if3 .taken),
+    )
+
+failed-requires : tie.Need-failed-requires
+failed-requires c κs = search needs
+
+returns-4 : tie.Need-returns-4
+unfolding translatedAs
+returns-4 c =
     let space = c .before .before .before .before in
     let controls = space .before .before .before .table-controls in
     let dat = space .before .before .before .before in
@@ -73,9 +98,8 @@ returns-3 c =
     let good = dat .before .before .before in
     let guest = good .before .before .guest-of in
     let start = good .before .before .before .before .before .before in
+    let found = c .before .before .locate .ensures (guest .result) (cpuOf (start .args .r .now)) (space .space-of .ensures .2 _ (psw .ensures) (controls .ensures .0) (controls .ensures .1)) in
     rw (
-      c .answer .ensures,
-      c .before .place-of .ensures,
       ← guest .ensures,
       ← good .before .entry-good .ensures,
       not-false (good .before .entry-good .result) (good .if1 .left),
@@ -83,8 +107,10 @@ returns-3 c =
       not-false (dat .before .translates .result) (dat .if2 .left),
       answered-is,
       ← wrapped-is (cpuOf (start .args .r .now)) (psw .result) (start .args .a) _ (psw .ensures) (c .before .before .before .wrapped .ensures),
+      ← space .space-of .ensures .1,
+      found,
     )
-    (ap answered (sym (c .before .before .locate .ensures _ _ (space .space-of .ensures .1 _ (psw .ensures) (controls .ensures .0) (controls .ensures .1)))))
+    (c .failed .ensures (guest .result) (cpuOf (start .args .r .now)) (space .space-of .ensures .2 _ (psw .ensures) (controls .ensures .0) (controls .ensures .1)) _ _ found)
 
 pub translate-other-spec : {M : Type 1} → statement M
 translate-other-spec =
@@ -102,6 +128,7 @@ translate-other-spec =
     space-of-requires
     wrapped-requires
     locate-requires
-    place-of-requires
-    answer-requires
-    returns-3)
+    cast-t25
+    returns-3
+    failed-requires
+    returns-4)

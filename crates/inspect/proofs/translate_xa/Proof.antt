@@ -1,12 +1,13 @@
 -- `inspect::translate_xa` meets its contract. Entry fails where the guest does not lie in the host's 2 GiB; else the byte is looked for.
 -- Assumes nothing.
+use mathlib.Core.Path.{ap, _∙_}
 use borrow.Author.Needs.{needs}
-use mathlib.Core.Path.{ap, sym, _∙_}
-use borrow.Author.Tests.{not-true, not-false}
+use borrow.Author.Tests.{lt-ltb, not-true, not-false}
 use Rattle.machine.specs.Record.{cpuOf}
 use Rattle.machine.specs.Entry.{entryGood}
 use Rattle.machine.specs.Operations.{translatedAs}
 use Rattle.storage.proofs.Entering.{entered}
+use Rattle.address.specs.Locating.{placeIn}
 use Rattle.inspect.specs.Answering.{answered}
 use Rattle.inspect.proofs.Accepting.{translated-length, translated-keys, entry-is, xa-translates, answered-is, wrapped-is}
 use Rattle.inspect.proofs.translate_xa.Statement.{statement}
@@ -50,15 +51,38 @@ wrapped-requires c κs = search needs
 locate-requires : tie.Need-locate-requires
 locate-requires c κs = (c .before .space-of .ensures .0, translated-keys _ _ _ _ (c .before .before .before .before .before .before .before .before .before .before .before .before .pre .1))
 
-place-of-requires : tie.Need-place-of-requires
-place-of-requires c κs = search needs
-
-answer-requires : tie.Need-answer-requires
-answer-requires c κs = search needs
+cast-t23 : tie.Need-cast-t23
+cast-t23 c = search needs
 
 returns-2 : tie.Need-returns-2
-unfolding translatedAs
+unfolding translatedAs answered placeIn
 returns-2 c =
+    let space = c .before .before .before in
+    let controls = space .before .before .before .table-controls in
+    let psw = space .before .before .before .before .psw-of in
+    let good = space .before .before .before .before .before in
+    let entry = good .before .place-good in
+    let guest = good .before .before .guest-of in
+    let start = good .before .before .before .before .before .before in
+    let found = c .before .locate .ensures (guest .result) (cpuOf (start .args .r .now)) (space .space-of .ensures .2 _ (psw .ensures) (controls .ensures .0) (controls .ensures .1)) in
+    rw (
+      entry-is (start .args .r .now) (guest .ensures) (start .pre .0) (entry .ensures),
+      not-false (entry .result) (good .if1 .left),
+      xa-translates (start .args .r .now) (start .pre .0),
+      ← guest .ensures,
+      answered-is,
+      ← wrapped-is (cpuOf (start .args .r .now)) (psw .result) (start .args .a) _ (psw .ensures) (c .before .before .wrapped .ensures),
+      ← space .space-of .ensures .1,
+      found,
+      lt-ltb _ _ (c .if2 .taken),
+    )
+
+failed-requires : tie.Need-failed-requires
+failed-requires c κs = search needs
+
+returns-3 : tie.Need-returns-3
+unfolding translatedAs
+returns-3 c =
     let space = c .before .before .before .before in
     let controls = space .before .before .before .table-controls in
     let psw = space .before .before .before .before .psw-of in
@@ -66,17 +90,18 @@ returns-2 c =
     let entry = good .before .place-good in
     let guest = good .before .before .guest-of in
     let start = good .before .before .before .before .before .before in
+    let found = c .before .before .locate .ensures (guest .result) (cpuOf (start .args .r .now)) (space .space-of .ensures .2 _ (psw .ensures) (controls .ensures .0) (controls .ensures .1)) in
     rw (
-      c .answer .ensures,
-      c .before .place-of .ensures,
       entry-is (start .args .r .now) (guest .ensures) (start .pre .0) (entry .ensures),
       not-false (entry .result) (good .if1 .left),
       xa-translates (start .args .r .now) (start .pre .0),
       ← guest .ensures,
       answered-is,
       ← wrapped-is (cpuOf (start .args .r .now)) (psw .result) (start .args .a) _ (psw .ensures) (c .before .before .before .wrapped .ensures),
+      ← space .space-of .ensures .1,
+      found,
     )
-    (ap answered (sym (c .before .before .locate .ensures _ _ (space .space-of .ensures .1 _ (psw .ensures) (controls .ensures .0) (controls .ensures .1)))))
+    (c .failed .ensures (guest .result) (cpuOf (start .args .r .now)) (space .space-of .ensures .2 _ (psw .ensures) (controls .ensures .0) (controls .ensures .1)) _ _ found)
 
 pub translate-xa-spec : {M : Type 1} → statement M
 translate-xa-spec =
@@ -92,6 +117,7 @@ translate-xa-spec =
     space-of-requires
     wrapped-requires
     locate-requires
-    place-of-requires
-    answer-requires
-    returns-2)
+    cast-t23
+    returns-2
+    failed-requires
+    returns-3)

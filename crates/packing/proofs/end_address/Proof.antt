@@ -12,9 +12,6 @@ enum-told c = search needs
 enum-known-end : tie.Need-enum-known-end
 enum-known-end c = search needs
 
-cast-result : tie.Need-cast-result
-cast-result c = search needs
-
 enum-told-2 : tie.Need-enum-told-2
 enum-told-2 c = search needs
 
@@ -24,7 +21,7 @@ returns c = rw (c .enum-told .given .1) refl
 
 returns-2 : tie.Need-returns-2
 unfolding endAddress
-returns-2 c = rw (c .before .before .end .given .1) refl
+returns-2 c = rw (c .before .end .given .1) refl
 
 returns-3 : tie.Need-returns-3
 unfolding endAddress
@@ -32,5 +29,4 @@ returns-3 c = rw (c .enum-told2 .given .1) refl
 
 pub end-address-spec : {M : Type 1} → statement M
 end-address-spec =
-    tie.close
-    (tie.spec enum-told enum-known-end cast-result enum-told-2 returns returns-2 returns-3)
+    tie.close (tie.spec enum-told enum-known-end enum-told-2 returns returns-2 returns-3)

@@ -12,8 +12,8 @@ enum-known-end c = search needs
 reason-code-requires : tie.Need-reason-code-requires
 reason-code-requires c κs = search needs
 
-pack-requires : tie.Need-pack-requires
-pack-requires c κs = search needs
+pack-staged-requires : tie.Need-pack-staged-requires
+pack-staged-requires c κs = search needs
 
 add-result : tie.Need-add-result
 add-result c = search needs
@@ -21,8 +21,8 @@ add-result c = search needs
 enum-known-end-2 : tie.Need-enum-known-end-2
 enum-known-end-2 c = search needs
 
-pack-requires-2 : tie.Need-pack-requires-2
-pack-requires-2 c κs = search needs
+pack-staged-requires-2 : tie.Need-pack-staged-requires-2
+pack-staged-requires-2 c κs = search needs
 
 add-result-2 : tie.Need-add-result-2
 add-result-2 c = search needs
@@ -30,23 +30,23 @@ add-result-2 c = search needs
 enum-told : tie.Need-enum-told
 enum-told c = search needs
 
-pack-requires-3 : tie.Need-pack-requires-3
-pack-requires-3 c κs = search needs
+pack-staged-requires-3 : tie.Need-pack-staged-requires-3
+pack-staged-requires-3 c κs = search needs
 
 add-result-3 : tie.Need-add-result-3
 add-result-3 c = search needs
 
 returns : tie.Need-returns
 unfolding packedEnd
-returns c = rw (c .before .before .before .end .given .1, c .pack .ensures, c .before .reason-code .ensures) (omega arith)
+returns c = rw (c .before .before .before .end .given .1, c .pack-staged .ensures .0, c .before .reason-code .ensures) (omega arith)
 
 returns-2 : tie.Need-returns-2
 unfolding packedEnd
-returns-2 c = rw (c .before .before .end2 .given .1, c .pack2 .ensures) (omega arith)
+returns-2 c = rw (c .before .before .end2 .given .1, c .pack-staged2 .ensures .0) (omega arith)
 
 returns-3 : tie.Need-returns-3
 unfolding packedEnd
-returns-3 c = rw (c .before .enum-told .given .1, c .pack3 .ensures) (omega arith)
+returns-3 c = rw (c .before .enum-told .given .1, c .pack-staged3 .ensures .0) (omega arith)
 
 pub pack-end-spec : {M : Type 1} → statement M
 pack-end-spec =
@@ -54,13 +54,13 @@ pack-end-spec =
     (tie.spec
     enum-known-end
     reason-code-requires
-    pack-requires
+    pack-staged-requires
     add-result
     enum-known-end-2
-    pack-requires-2
+    pack-staged-requires-2
     add-result-2
     enum-told
-    pack-requires-3
+    pack-staged-requires-3
     add-result-3
     returns
     returns-2

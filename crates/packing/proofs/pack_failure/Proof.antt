@@ -6,19 +6,20 @@ use Rattle.packing.specs.Packing.{packedFailure}
 use Rattle.packing.proofs.pack_failure.Statement.{statement}
 use Rattle.packing.proofs.pack_failure.Tie as tie
 
-pack-requires : tie.Need-pack-requires
-pack-requires c κs = search needs
+pack-staged-requires : tie.Need-pack-staged-requires
+pack-staged-requires c κs = search needs
 
 returns : tie.Need-returns
 unfolding packedFailure
 returns c = search (tests, c .before .if1 .taken)
 
-pack-requires-2 : tie.Need-pack-requires-2
-pack-requires-2 c κs = search needs
+pack-staged-requires-2 : tie.Need-pack-staged-requires-2
+pack-staged-requires-2 c κs = search needs
 
 returns-2 : tie.Need-returns-2
 unfolding packedFailure
 returns-2 c = search (tests, c .before .if1 .left)
 
 pub pack-failure-spec : {M : Type 1} → statement M
-pack-failure-spec = tie.close (tie.spec pack-requires returns pack-requires-2 returns-2)
+pack-failure-spec =
+    tie.close (tie.spec pack-staged-requires returns pack-staged-requires-2 returns-2)

@@ -1,6 +1,8 @@
 -- `packing::place_after` meets its contract.
 -- Assumes nothing.
 use borrow.Author.Needs.{needs}
+use mathlib.Core.Path.{refl}
+use mathlib.Core.Logic.{⊎-elim}
 use Rattle.machine.proofs.Tests.{tests}
 use Rattle.packing.specs.Packing.{placeAfter}
 use Rattle.packing.proofs.place_after.Statement.{statement}
@@ -21,8 +23,8 @@ enum-told-2 c = search needs
 enum-known-x-2 : tie.Need-enum-known-x-2
 enum-known-x-2 c = search needs
 
-cast-result-2 : tie.Need-cast-result-2
-cast-result-2 c = search needs
+placed-requires : tie.Need-placed-requires
+placed-requires c κs = search needs
 
 returns : tie.Need-returns
 unfolding placeAfter
@@ -38,11 +40,10 @@ returns-3 c = search (tests, c .enum-told2 .given .1)
 
 returns-4 : tie.Need-returns-4
 unfolding placeAfter
-returns-4 c = search (tests, c .before .before .before .x2 .given .1, c .before .if1 .taken)
-
-returns-5 : tie.Need-returns-5
-unfolding placeAfter
-returns-5 c = search (tests, c .before .before .x2 .given .1, c .if1 .left)
+returns-4 c =
+    ⊎-elim (λ w. rw (c .before .before .before .x2 .given .1, c .placed .ensures, w .1, w .0 .taken) refl)
+    (λ w. rw (c .before .before .before .x2 .given .1, c .placed .ensures, w .1, w .0 .left) refl)
+    (c .before .if1 .came)
 
 pub place-after-spec : {M : Type 1} → statement M
 place-after-spec =
@@ -53,9 +54,8 @@ place-after-spec =
     cast-result
     enum-told-2
     enum-known-x-2
-    cast-result-2
+    placed-requires
     returns
     returns-2
     returns-3
-    returns-4
-    returns-5)
+    returns-4)

@@ -88,9 +88,9 @@ fn compare(rng: &mut Rng, case: &Case, tally: &mut Tally) -> bool {
     for _ in 0..TRANSLATIONS {
         let (address, access) = generate::translation(rng, case);
         let owed =
-            model::translate(&case.record, &case.storage, &case.keys, case.designation, address, access);
-        tally.translation(owed);
-        let owed = ffi::pack(owed, 0);
+            model::translate_and_walk(&case.record, &case.storage, &case.keys, case.designation, address, access);
+        tally.translation(owed, &case.record);
+        let owed = ffi::pack(owed.0, 0);
         let given = ffi::translate(
             record.content(),
             storage.content(),
@@ -124,7 +124,7 @@ fn compare(rng: &mut Rng, case: &Case, tally: &mut Tally) -> bool {
         case.budget,
     );
     let owed = ffi::pack(end.answer, end.units);
-    tally.run(owed, &model_record, &end.events);
+    tally.run(&end, &model_record);
     let given = ffi::run(
         record.content(),
         storage.content(),

@@ -1,6 +1,7 @@
 //! isolation [CASES] [SEED]: two runs of the library that agree on the record, the numbers, the entries that describe
-//! the extent and the guest frames with their keys, and differ at random in all else. They must end alike, leave the
-//! same record, guest frames and keys, and touch nothing outside.
+//! the extent and the guest frames with their keys, and differ at random in all else. They must end alike, stage and
+//! table entry included, leave the same record, guest frames and keys, and touch nothing outside. Some translations of
+//! both must answer alike too.
 
 use drevokas_tests::ffi::{self, Packed};
 use drevokas_tests::generate::{self, Case, Machine, Rng, Wishes};
@@ -8,6 +9,8 @@ use drevokas_tests::model::{self, Extent, FRAME};
 use drevokas_tests::report;
 use std::process::exit;
 use std::time::Instant;
+
+const TRANSLATIONS: u32 = 4;
 
 fn main() {
     let (cases, seed) = report::arguments(50_000);
@@ -21,6 +24,8 @@ fn main() {
 fn isolate(machine: Machine, cases: u64, seed: u64) {
     let start = Instant::now();
     let (mut done, mut skipped, mut units, mut empty) = (0, 0, 0u64, 0);
+    // Runs and translations that tell of a table entry.
+    let (mut runs, mut translations) = (0u64, 0u64);
     let cases = if machine == Machine::XaLarger { cases / 8 } else { cases };
     let mut number = 0;
     while done < cases {
@@ -35,8 +40,13 @@ fn isolate(machine: Machine, cases: u64, seed: u64) {
             continue;
         }
         let other = refill(&mut rng, &case, &extent);
-        match compare(&case, &other, &extent) {
-            Some(end) => units += end.units() as u64,
+        let told = compare_translations(&mut rng, &case, &other);
+        match told.and_then(|told| Some((told, compare(&case, &other, &extent)?))) {
+            Some((told, end)) => {
+                units += end.units() as u64;
+                runs += (end.kind() == ffi::HOST_FAULT && end.entry() != 0) as u64;
+                translations += told;
+            }
             None => {
                 println!("isolation fails in case {} of seed {seed}, {machine:?}", number - 1);
                 report::keep_case(&case, "isolation-1.case");
@@ -53,6 +63,10 @@ fn isolate(machine: Machine, cases: u64, seed: u64) {
          guest frame, {seconds:.1} seconds",
         units as f64 / done.max(1) as f64
     );
+    println!("a table entry told by {runs} runs and {translations} translations");
+    if (runs == 0 || translations == 0) && cases > 1000 {
+        exit(1);
+    }
 }
 
 /// "A refused run has no entries that describe an extent and no guest frames."
@@ -94,6 +108,30 @@ fn refill(rng: &mut Rng, case: &Case, extent: &Extent) -> Case {
         }
     }
     other
+}
+
+/// Translates some addresses in both and answers how many answers tell of a table entry, if all agree.
+fn compare_translations(rng: &mut Rng, case: &Case, other: &Case) -> Option<u64> {
+    let mut told = 0;
+    // Budget and time are nothing to translate: where they are refused it goes on, and the extent was taken as empty.
+    let refusal = model::refuse_run(&case.record, case.storage.len(), case.keys.len(), case.budget, case.time);
+    if matches!(refusal, Some(5 | 6)) {
+        return Some(told);
+    }
+    for _ in 0..TRANSLATIONS {
+        let (address, access) = generate::translation(rng, case);
+        let translate =
+            |case: &Case| ffi::translate(&case.record, &case.storage, &case.keys, case.designation, address, access);
+        let (first, second) = (translate(case), translate(other));
+        if first != second {
+            println!("translate of {address:08x} hex, access kind {access}");
+            println!("{}", report::show_answer("first ", first));
+            println!("{}", report::show_answer("second", second));
+            return None;
+        }
+        told += (first.kind() != ffi::REFUSED && first.entry() != 0) as u64;
+    }
+    Some(told)
 }
 
 /// Runs both and answers the end, if all is as it must be.

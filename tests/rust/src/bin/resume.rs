@@ -20,6 +20,8 @@ fn main() {
 fn resume(machine: Machine, cases: u64, seed: u64) {
     let start = Instant::now();
     let (mut units, mut pieces, mut crossed, mut fell) = (0u64, 0u64, 0u64, 0u64);
+    // Host faults after a unit or more that tell of a table entry.
+    let mut told = 0u64;
     for number in 0..cases {
         let Some(mut rng) = machine.rng(seed, number) else { continue };
         let wishes = Wishes { machine, damage: rng.percent(5), large_extents: true };
@@ -47,11 +49,16 @@ fn resume(machine: Machine, cases: u64, seed: u64) {
             }
         }
         units += end.units() as u64;
+        told += (end.kind() == ffi::HOST_FAULT && end.units() > 0 && end.entry() != 0) as u64;
     }
     println!(
         "{units} units, {pieces} pieces, {crossed} cuts where the CPU timer crossed zero, {:.1} seconds",
         start.elapsed().as_secs_f64()
     );
+    println!("{told} resumed runs that told of a table entry");
+    if told == 0 && cases > 1000 {
+        exit(1);
+    }
     if crossed == 0 && cases > 1000 {
         println!("no cut where the CPU timer crossed zero");
         exit(1);
@@ -147,11 +154,8 @@ fn run(case: &mut Case, clock: u64, budget: u32) -> Packed {
 
 fn same(whole: &Case, end: Packed, cut: &Case, cut_end: Packed, cut_units: u32) -> bool {
     let mut good = true;
-    if end.kind() != cut_end.kind()
-        || end.number() != cut_end.number()
-        || end.location != cut_end.location
-        || end.units() != cut_units
-    {
+    // Kind, number and stage; table entry and address; the units of all pieces.
+    if end.word >> 32 != cut_end.word >> 32 || end.location != cut_end.location || end.units() != cut_units {
         println!("{}", report::show_answer("at once  ", end));
         println!("{}", report::show_answer("in pieces", cut_end));
         println!("in pieces {cut_units} units in all");

@@ -1,0 +1,57 @@
+-- `packing::stage_number` meets its contract.
+-- Assumes nothing.
+use borrow.Author.Needs.{needs}
+use mathlib.Core.Path.{refl}
+use Rattle.machine.specs.Answers.{stageNumber}
+use Rattle.packing.proofs.stage_number.Statement.{statement}
+use Rattle.packing.proofs.stage_number.Tie as tie
+
+enum-told : tie.Need-enum-told
+enum-told c = search needs
+
+enum-told-2 : tie.Need-enum-told-2
+enum-told-2 c = search needs
+
+enum-told-3 : tie.Need-enum-told-3
+enum-told-3 c = search needs
+
+enum-told-4 : tie.Need-enum-told-4
+enum-told-4 c = search needs
+
+enum-told-5 : tie.Need-enum-told-5
+enum-told-5 c = search needs
+
+returns : tie.Need-returns
+unfolding stageNumber
+returns c = (rw (c .enum-told .given .1) refl, search needs)
+
+returns-2 : tie.Need-returns-2
+unfolding stageNumber
+returns-2 c = (rw (c .enum-told2 .given .1) refl, search needs)
+
+returns-3 : tie.Need-returns-3
+unfolding stageNumber
+returns-3 c = (rw (c .enum-told3 .given .1) refl, search needs)
+
+returns-4 : tie.Need-returns-4
+unfolding stageNumber
+returns-4 c = (rw (c .enum-told4 .given .1) refl, search needs)
+
+returns-5 : tie.Need-returns-5
+unfolding stageNumber
+returns-5 c = (rw (c .enum-told5 .given .1) refl, search needs)
+
+pub stage-number-spec : {M : Type 1} → statement M
+stage-number-spec =
+    tie.close
+    (tie.spec
+    enum-told
+    enum-told-2
+    enum-told-3
+    enum-told-4
+    enum-told-5
+    returns
+    returns-2
+    returns-3
+    returns-4
+    returns-5)

@@ -1,0 +1,12 @@
+/* The table entry at which a translation failed, in words. */
+#ifndef STAGE_H
+#define STAGE_H
+
+#include "words.h"
+
+/* Adds the entry of an answer that has a stage: "host page entry at 00002004: invalid". Stage and address are the library's.
+   Why the entry did not lead on is said where the shell's own walk of the tables ends there too. virtual is the guest virtual
+   address that was translated, NULL where there was none. */
+void add_entry(const struct case_file *c, const uint32_t *virtual, uint64_t answer, uint64_t where, char text[SENTENCE]);
+
+#endif
