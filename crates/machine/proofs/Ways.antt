@@ -11,7 +11,8 @@ use Rattle.machine.specs.declared.Walk.{Walk}
 use Rattle.machine.specs.declared.Walk.the-variants.{Page, Failed}
 use Rattle.machine.specs.Sizes.{pageBytes}
 use Rattle.machine.specs.Walk.{segmentIndex, pageIndex, segmentEntryAt, pastSegmentTable, segmentInvalid, segmentMalformed, pageEntryAt, pastPageTable, pageInvalid, pageMalformed, walk, walkSegment, walkPage}
-use Rattle.machine.specs.Sought.{segmentTable, pageTable, Way, leads, stops, unread, wayOfPage, wayOfSegment, way, foundBy}
+use Rattle.machine.specs.Sought.{Way, wayOfPage, wayOfSegment, way, foundBy}
+use Rattle.machine.specs.WhichTable.{SegmentWord, PageSought, Went, pastSegments, lacksSegment, badSegment, pastPages, lacksPage, badPage, goodPage}
 use Rattle.machine.proofs.Tests.{on-either-arm, by-either-test}
 
 module _ (read : ℕ → TableEntry) (fail : ℕ → Failure) where
@@ -42,45 +43,23 @@ way-by-page read d a =
     rw (e, f)
 
 module _ (read : ℕ → TableEntry) (d a : ℕ) where
-  -- the walk reads its segment entry, which is this word
-  pub record Segment (e : ℕ) : Type 0 where
-    pub inTable : pastSegmentTable d (segmentIndex a) ≡ false
-    pub is : read (segmentEntryAt d (segmentIndex a)) ≡ Word e
-
-  -- and seeks its page entry where that says
-  pub record ToPage (e : ℕ) : Type 0 where
-    pub segment : Segment e
-    pub valid : segmentInvalid e ≡ false
-    pub formed : segmentMalformed e ≡ false
-    pub inTable : pastPageTable e (pageIndex a) ≡ false
-
-  -- what the walk read on its way
-  pub data Went : Way → Type 0 where
-    segment-past : {code : ℕ} → pastSegmentTable d (segmentIndex a) ≡ true → Went (stops segmentTable 0 code)
-    segment-lacks : {f : Failure} → read (segmentEntryAt d (segmentIndex a)) ≡ Unread f → Went (unread segmentTable f)
-    segment-bad : {e code : ℕ} → Segment e → Went (stops segmentTable (segmentEntryAt d (segmentIndex a)) code)
-    page-past : {e code : ℕ} → Segment e → pastPageTable e (pageIndex a) ≡ true → Went (stops pageTable 0 code)
-    page-lacks : {e : ℕ} {f : Failure} → ToPage e → read (pageEntryAt e (pageIndex a)) ≡ Unread f → Went (unread pageTable f)
-    page-bad : {e p code : ℕ} → ToPage e → read (pageEntryAt e (pageIndex a)) ≡ Word p → Went (stops pageTable (pageEntryAt e (pageIndex a)) code)
-    page-good : {e p : ℕ} → ToPage e → read (pageEntryAt e (pageIndex a)) ≡ Word p → Went (leads (pageEntryAt e (pageIndex a)) p)
-
-  pub went : Went (way read d a)
+  pub went : Went read d a (way read d a)
   unfolding way wayOfSegment wayOfPage
-  went = by-either-test Went _ segment-past (λ near. by-segment near (read (segmentEntryAt d (segmentIndex a))) refl)
+  went = by-either-test (Went read d a) _ pastSegments (λ near. by-segment near (read (segmentEntryAt d (segmentIndex a))) refl)
     where
-      by-page : (e : ℕ) → ToPage e → (x : TableEntry) → read (pageEntryAt e (pageIndex a)) ≡ x → Went (wayOfPage (pageEntryAt e (pageIndex a)) x)
-      by-page e to (Unread f) is = page-lacks to is
+      by-page : (e : ℕ) → PageSought read d a e → (x : TableEntry) → read (pageEntryAt e (pageIndex a)) ≡ x → Went read d a (wayOfPage (pageEntryAt e (pageIndex a)) x)
+      by-page e to (Unread f) is = lacksPage to is
       by-page e to (Word p) is =
-          on-either-arm Went (pageInvalid p) (page-bad to is) (on-either-arm Went (pageMalformed p) (page-bad to is) (page-good to is))
+          on-either-arm (Went read d a) (pageInvalid p) (badPage to is) (on-either-arm (Went read d a) (pageMalformed p) (badPage to is) (goodPage to is))
 
       by-segment : pastSegmentTable d (segmentIndex a) ≡ false → (x : TableEntry) → read (segmentEntryAt d (segmentIndex a)) ≡ x
-          → Went (wayOfSegment read (segmentEntryAt d (segmentIndex a)) (pageIndex a) x)
-      by-segment near (Unread f) is = segment-lacks is
+          → Went read d a (wayOfSegment read (segmentEntryAt d (segmentIndex a)) (pageIndex a) x)
+      by-segment near (Unread f) is = lacksSegment is
       by-segment near (Word e) is =
-          let segment : Segment e = record { inTable = near; is = is } in
-          by-either-test Went (segmentInvalid e) (λ _. segment-bad segment)
-          λ valid. by-either-test Went (segmentMalformed e) (λ _. segment-bad segment)
-          λ formed. by-either-test Went (pastPageTable e (pageIndex a)) (page-past segment)
+          let segment : SegmentWord read d a e = record { inTable = near; is = is } in
+          by-either-test (Went read d a) (segmentInvalid e) (λ _. badSegment segment)
+          λ valid. by-either-test (Went read d a) (segmentMalformed e) (λ _. badSegment segment)
+          λ formed. by-either-test (Went read d a) (pastPageTable e (pageIndex a)) (pastPages segment)
           λ inTable. by-page e (record { segment = segment; valid = valid; formed = formed; inTable = inTable }) _ refl
 
 -- a walk that ends at a page, or fails so
@@ -95,10 +74,10 @@ unfolding foundBy
 walk-good Q read fail d a by-code lacks = rw walk-by-way (by-way (went read d a))
   where
     by-way : {w : Way} → Went read d a w → GoodWalk Q (foundBy fail w)
-    by-way (segment-past past) = fails (by-code _)
-    by-way (segment-lacks is) = fails (lacks _ _ is)
-    by-way (segment-bad segment) = fails (by-code _)
-    by-way (page-past segment past) = fails (by-code _)
-    by-way (page-lacks to is) = fails (lacks _ _ is)
-    by-way (page-bad to is) = fails (by-code _)
-    by-way (page-good to is) = finds
+    by-way (pastSegments past) = fails (by-code _)
+    by-way (lacksSegment is) = fails (lacks _ _ is)
+    by-way (badSegment segment) = fails (by-code _)
+    by-way (pastPages segment past) = fails (by-code _)
+    by-way (lacksPage to is) = fails (lacks _ _ is)
+    by-way (badPage to is) = fails (by-code _)
+    by-way (goodPage to is) = finds

@@ -39,12 +39,15 @@ use Rattle.machine.specs.Addresses.{guestEntry, formatGood, realPage, Ac
 use Rattle.machine.specs.Sought.{segmentTable, pageTable, Way, leads, stops, unread, way, foundBy, nowhere, guestSoughtBy, guestSought, hostSoughtBy, hostSought, faultSought, exceptionSought, sought, endSought}
 use Rattle.machine.specs.Run.{Ended, run}
 use Rattle.machine.specs.Operations.{addressIn, translatedTo, translates, translatedAs, translate, Result, resultOf, machineOf}
-use Rattle.machine.specs.WhichTable.{WalksEndSo, OfSide, ReadByHost, ByHost, SegmentRead, PageRead, ReadByGuest, ByGuest, Asked, forSegment, forPage, forByte, Named, TranslationsNameTheTable, RunsNameTheTable}
+use Rattle.machine.specs.WhichTable.{WalksEndSo, OfSide, ReadByHost, ByHost, SegmentRead, PageRead, ReadByGuest, ByGuest, Asked, forSegment, forPage, forByte, Named, TranslationsNameTheTable, RunsNameTheTable, SegmentWord, PageSought, Went, pastSegments, lacksSegment, badSegment, pastPages, lacksPage, badPage, goodPage, WaysAreWent}
 use Rattle.machine.proofs.Tests.{on-either-arm, by-either-test}
 use Rattle.machine.proofs.Runs.{runOf-cases}
-use Rattle.machine.proofs.Ways.{walk-by-way, way-by-page, Segment, ToPage, Went, segment-past, segment-lacks, segment-bad, page-past, page-lacks, page-bad, page-good, went, GoodWalk, finds, fails}
+use Rattle.machine.proofs.Ways.{walk-by-way, way-by-page, went, GoodWalk, finds, fails}
 use Rattle.machine.proofs.Backing.{read-or-not}
 use Rattle.machine.proofs.Backed.{Stands, Good, reaches, denies, settle-good, entry-lacks, exception-of-guest, stands-on-page, lacks-by-host}
+
+pub ways-are-went : WaysAreWent
+ways-are-went = went
 
 pub walks-end-so : WalksEndSo
 walks-end-so read fail d a = walk-by-way read fail d a
@@ -83,16 +86,16 @@ module _ (d : ℕ) (s : List ℕ) (v : ℕ) where
   abbrev HostWent : Way → Type 0
   HostWent = Went (hostEntry s v) d (page * pageBytes)
 
-  segment-in-reach : {e : ℕ} → Segment (hostEntry s v) d (page * pageBytes) e → SegmentInReach d s page
+  segment-in-reach : {e : ℕ} → SegmentWord (hostEntry s v) d (page * pageBytes) e → SegmentInReach d s page
   segment-in-reach {e} segment = record { inTable = segment .inTable; inStorage = word-read s v (segmentPlace d page) e (segment .is) .0 }
 
-  segment-is : {e : ℕ} → Segment (hostEntry s v) d (page * pageBytes) e → segmentOf d s page ≡ e
+  segment-is : {e : ℕ} → SegmentWord (hostEntry s v) d (page * pageBytes) e → segmentOf d s page ≡ e
   segment-is {e} segment = word-read s v (segmentPlace d page) e (segment .is) .1
 
-  page-place : {e : ℕ} → ToPage (hostEntry s v) d (page * pageBytes) e → pageEntryAt e (pageIndex (page * pageBytes)) ≡ pagePlace d s page
+  page-place : {e : ℕ} → PageSought (hostEntry s v) d (page * pageBytes) e → pageEntryAt e (pageIndex (page * pageBytes)) ≡ pagePlace d s page
   page-place to = ap (λ e. pageEntryAt e (pageIndex (page * pageBytes))) (sym (segment-is (to .segment)))
 
-  page-in-reach : {e p : ℕ} → ToPage (hostEntry s v) d (page * pageBytes) e → hostEntry s v (pageEntryAt e (pageIndex (page * pageBytes))) ≡ Word p
+  page-in-reach : {e p : ℕ} → PageSought (hostEntry s v) d (page * pageBytes) e → hostEntry s v (pageEntryAt e (pageIndex (page * pageBytes))) ≡ Word p
       → PageInReach d s page
   page-in-reach {e} {p} to is = record {
     segment = segment-in-reach (to .segment);
@@ -104,17 +107,17 @@ module _ (d : ℕ) (s : List ℕ) (v : ℕ) where
 
   host-tells : {w : Way} → HostWent w → Tells Read (hostSoughtBy w)
   unfolding hostSoughtBy
-  host-tells (segment-past past) = tells-none Read HostSegment (λ at r. false≢true (sym (r .1 .inTable) ∙ past))
-  host-tells (segment-lacks is) = tells-none Read HostSegment (λ at r. not-read s v _ _ is (r .1 .inStorage))
-  host-tells (segment-bad segment) = tells-entry Read HostSegment _ (refl, segment-in-reach segment) (λ at r. sym (r .0))
-  host-tells (page-past segment past) =
+  host-tells (pastSegments past) = tells-none Read HostSegment (λ at r. false≢true (sym (r .1 .inTable) ∙ past))
+  host-tells (lacksSegment is) = tells-none Read HostSegment (λ at r. not-read s v _ _ is (r .1 .inStorage))
+  host-tells (badSegment segment) = tells-entry Read HostSegment _ (refl, segment-in-reach segment) (λ at r. sym (r .0))
+  host-tells (pastPages segment past) =
       tells-none Read HostPage
       (λ at r. false≢true (sym (r .1 .inTable) ∙ ap (λ e. pastPageTable e (pageIndex (page * pageBytes))) (segment-is segment) ∙ past))
-  host-tells (page-lacks to is) =
+  host-tells (lacksPage to is) =
       tells-none Read HostPage (λ at r. not-read s v _ _ (ap (hostEntry s v) (sym (page-place to)) ∙ is) (r .1 .inStorage))
-  host-tells (page-bad to is) =
+  host-tells (badPage to is) =
       tells-entry Read HostPage _ (page-place to, page-in-reach to is) (λ at r. page-place to ∙ sym (r .0))
-  host-tells (page-good to is) =
+  host-tells (goodPage to is) =
       tells-entry Read HostPage _ (page-place to, page-in-reach to is) (λ at r. page-place to ∙ sym (r .0))
 
 -- a stage of the host's
@@ -186,10 +189,10 @@ module _ (g : Guest) (h : Host) (c : Cpu) (a : ℕ) where
 
   -- where CR0 is good
   module _ (dat : datOn c ≡ true) (format : formatGood c ≡ true) where
-    segment-read : {e : ℕ} → Segment seen (control c 1) a e → SegmentRead g h c a e
+    segment-read : {e : ℕ} → SegmentWord seen (control c 1) a e → SegmentRead g h c a e
     segment-read segment = record { dat = dat; format = format; inTable = segment .inTable; is = segment .is }
 
-    page-read : {e p : ℕ} → ToPage seen (control c 1) a e → seen (pageEntryAt e (pageIndex a)) ≡ Word p → PageRead g h c a e p
+    page-read : {e p : ℕ} → PageSought seen (control c 1) a e → seen (pageEntryAt e (pageIndex a)) ≡ Word p → PageRead g h c a e p
     page-read to is = record {
       segment = segment-read (to .segment);
       valid = to .valid;
@@ -199,30 +202,30 @@ module _ (g : Guest) (h : Host) (c : Cpu) (a : ℕ) where
     }
 
     -- each entry is one word
-    one-segment : {e e′ : ℕ} → Segment seen (control c 1) a e → SegmentRead g h c a e′ → e ≡ e′
+    one-segment : {e e′ : ℕ} → SegmentWord seen (control c 1) a e → SegmentRead g h c a e′ → e ≡ e′
     one-segment segment r = cc (segment .is, r .is)
 
     guest-tells : {w : Way} → Went seen (control c 1) a w → Tells GuestRead (guestSoughtBy w)
     unfolding guestSoughtBy
-    guest-tells (segment-past past) = tells-none GuestRead GuestSegment (λ at r. false≢true (sym (r .1 .1 .inTable) ∙ past))
-    guest-tells (segment-lacks is) =
+    guest-tells (pastSegments past) = tells-none GuestRead GuestSegment (λ at r. false≢true (sym (r .1 .1 .inTable) ∙ past))
+    guest-tells (lacksSegment is) =
         tells-none GuestRead GuestSegment (λ at r. let z : _≡_ {A = ℕ} 0 1 = cc (is, r .1 .1 .is) in omega arith)
-    guest-tells (segment-bad {e = e} segment) = tells-entry GuestRead GuestSegment _ (refl, (e, segment-read segment)) (λ at r. sym (r .0))
-    guest-tells (page-past segment past) =
+    guest-tells (badSegment {e = e} segment) = tells-entry GuestRead GuestSegment _ (refl, (e, segment-read segment)) (λ at r. sym (r .0))
+    guest-tells (pastPages segment past) =
         tells-none GuestRead GuestPage
         (λ at r.
         let same = ap (λ e. pastPageTable e (pageIndex a)) (one-segment segment (r .3 .segment)) in
         false≢true (sym (r .3 .inTable) ∙ sym same ∙ past))
-    guest-tells (page-lacks to is) =
+    guest-tells (lacksPage to is) =
         tells-none GuestRead GuestPage
         (λ at r.
         let same = ap (λ e. seen (pageEntryAt e (pageIndex a))) (one-segment (to .segment) (r .3 .segment)) in
         let z : _≡_ {A = ℕ} 0 1 = cc (is, r .3 .is) in
         omega arith)
-    guest-tells (page-bad {e = e} {p = p} to is) =
+    guest-tells (badPage {e = e} {p = p} to is) =
         tells-entry GuestRead GuestPage _ (e, p, refl, page-read to is)
         (λ at r. ap (λ e. pageEntryAt e (pageIndex a)) (one-segment (to .segment) (r .3 .segment)) ∙ sym (r .2))
-    guest-tells (page-good to is) = tells-none GuestRead None (λ at r. r)
+    guest-tells (goodPage to is) = tells-none GuestRead None (λ at r. r)
 
   -- by no table
   none-named : (f : Failure) → ByGuest g h c a f nowhere
@@ -274,14 +277,14 @@ module _ (g : Guest) (h : Host) (c : Cpu) (a : ℕ) where
       coded code = fails (not-asked (walkException a code) (exception-of-guest a code))
 
       by-way : {w : Way} → Went seen (control c 1) a w → GoodWalk AskedFor (foundBy (walkException a) w)
-      by-way (segment-past past) = coded _
-      by-way (segment-lacks is) = fails (asked-at _ _ (entry-lacks g (view g h) _ _ is) (forSegment dat))
-      by-way (segment-bad segment) = coded _
-      by-way (page-past segment past) = coded _
-      by-way (page-lacks to is) =
+      by-way (pastSegments past) = coded _
+      by-way (lacksSegment is) = fails (asked-at _ _ (entry-lacks g (view g h) _ _ is) (forSegment dat))
+      by-way (badSegment segment) = coded _
+      by-way (pastPages segment past) = coded _
+      by-way (lacksPage to is) =
           fails (asked-at _ _ (entry-lacks g (view g h) _ _ is) (forPage _ (segment-read dat format (to .segment))))
-      by-way (page-bad to is) = coded _
-      by-way (page-good to is) = finds
+      by-way (badPage to is) = coded _
+      by-way (goodPage to is) = finds
 
   page-asked : GoodWalk AskedFor (realPage g (view g h) c a)
   unfolding realPage

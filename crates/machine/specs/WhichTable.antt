@@ -13,23 +13,51 @@ use Rattle.machine.specs.declared.Sought.{Sought}
 use Rattle.machine.specs.declared.Stage.{Stage}
 use Rattle.machine.specs.declared.Stage.the-variants.{None, GuestSegment, GuestPage, HostSegment, HostPage}
 use Rattle.machine.specs.declared.TableEntry.{TableEntry}
-use Rattle.machine.specs.declared.TableEntry.the-variants.{Word}
+use Rattle.machine.specs.declared.TableEntry.the-variants.{Word, Unread}
 use Rattle.machine.specs.declared.Translated.the-variants.{Failed}
 use Rattle.machine.specs.declared.Walk.the-variants.{Page}
 use Rattle.machine.specs.Sizes.{pageBytes}
 use Rattle.machine.specs.Record.{guestOf, cpuOf}
 use Rattle.machine.specs.Psw.{datOn, wrap, control}
-use Rattle.machine.specs.Failures.{protection}
+use Rattle.machine.specs.Failures.{protection, segmentTranslation, pageTranslation}
 use Rattle.machine.specs.Walk.{segmentIndex, pageIndex, segmentEntryAt, pastSegmentTable, segmentInvalid, segmentMalformed, pageEntryAt, pastPageTable, walk}
 use Rattle.machine.specs.Host.{Host, hostVirtual, view}
 use Rattle.machine.specs.Frames.{segmentPlace, pagePlace, SegmentInReach, PageInReach}
 use Rattle.machine.specs.Addresses.{prefixed, guestEntry, formatGood, realPage}
-use Rattle.machine.specs.Sought.{nowhere, way, foundBy}
+use Rattle.machine.specs.Sought.{segmentTable, pageTable, Way, leads, stops, unread, nowhere, way, foundBy}
 use Rattle.machine.specs.Operations.{translate, runOf}
 
 -- every walk ends as its way says: with that code, by an entry of that table
 abbrev pub WalksEndSo : Type 0
 WalksEndSo = (read : ℕ → TableEntry) (fail : ℕ → Failure) (designation a : ℕ) → walk read fail designation a ≡ foundBy fail (way read designation a)
+
+-- a walk for an address: `read` reads an entry
+module _ (read : ℕ → TableEntry) (designation a : ℕ) where
+  -- it reads its segment entry, which is this word
+  pub record SegmentWord (e : ℕ) : Type 0 where
+    pub inTable : pastSegmentTable designation (segmentIndex a) ≡ false
+    pub is : read (segmentEntryAt designation (segmentIndex a)) ≡ Word e
+
+  -- and seeks its page entry where that says
+  pub record PageSought (e : ℕ) : Type 0 where
+    pub segment : SegmentWord e
+    pub valid : segmentInvalid e ≡ false
+    pub formed : segmentMalformed e ≡ false
+    pub inTable : pastPageTable e (pageIndex a) ≡ false
+
+  -- what it sought and read on its way
+  pub data Went : Way → Type 0 where
+    pastSegments : pastSegmentTable designation (segmentIndex a) ≡ true → Went (stops segmentTable 0 segmentTranslation)
+    lacksSegment : {f : Failure} → read (segmentEntryAt designation (segmentIndex a)) ≡ Unread f → Went (unread segmentTable f)
+    badSegment : {e code : ℕ} → SegmentWord e → Went (stops segmentTable (segmentEntryAt designation (segmentIndex a)) code)
+    pastPages : {e : ℕ} → SegmentWord e → pastPageTable e (pageIndex a) ≡ true → Went (stops pageTable 0 pageTranslation)
+    lacksPage : {e : ℕ} {f : Failure} → PageSought e → read (pageEntryAt e (pageIndex a)) ≡ Unread f → Went (unread pageTable f)
+    badPage : {e p code : ℕ} → PageSought e → read (pageEntryAt e (pageIndex a)) ≡ Word p → Went (stops pageTable (pageEntryAt e (pageIndex a)) code)
+    goodPage : {e p : ℕ} → PageSought e → read (pageEntryAt e (pageIndex a)) ≡ Word p → Went (leads (pageEntryAt e (pageIndex a)) p)
+
+-- every way names the table whose entry was sought when the walk ended, and the entry's address where it was read
+abbrev pub WaysAreWent : Type 0
+WaysAreWent = (read : ℕ → TableEntry) (designation a : ℕ) → Went read designation a (way read designation a)
 
 -- a host fault names no table of the guest, and a guest exception none of the host
 abbrev pub OfSide : Bool → Stage → Type 0

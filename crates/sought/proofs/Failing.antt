@@ -24,8 +24,8 @@ use Rattle.machine.specs.Walk.{segmentIndex, pageIndex, segmentEntryAt, pastSeg
 use Rattle.machine.specs.Host.{Host, Cell, host, hostVirtual, inFrame, hostPage, backing, cellOf, view}
 use Rattle.machine.specs.Addresses.{prefixed, entryOf, guestEntry, formatGood, lowProtected, realPage}
 use Rattle.machine.specs.Sought.{Way, leads, stops, unread, segmentTable, pageTable, nowhere, wayOfPage, wayOfSegment, way, foundBy, guestSoughtBy, guestSought, hostSought, faultSought, exceptionSought, sought}
-use Rattle.machine.proofs.Ways.{walk-by-way}
-use Rattle.machine.proofs.Tests.{on-either-arm}
+use Rattle.machine.specs.WhichTable.{Went, pastSegments, lacksSegment, badSegment, pastPages, lacksPage, badPage, goodPage}
+use Rattle.machine.proofs.Ways.{walk-by-way, went}
 use Rattle.storage.proofs.Faults.{OwnWalk, own-host-page}
 use Rattle.address.specs.Touching.{settled, touched, touchOf}
 use Rattle.sought.specs.Failing.{ReadAs, ExceptsBy, Excepts}
@@ -148,25 +148,18 @@ OnUnread Q (leads at e) = Unit {0}
 OnUnread Q (stops table at code) = Unit {0}
 OnUnread Q (unread table f) = Q f
 
-module _ (Q : Failure → Type 0) (read : ℕ → TableEntry) (own : (at : ℕ) (f : Failure) → read at ≡ Unread f → Q f) where
-  on-page : (at : ℕ) (x : TableEntry) → ((f : Failure) → x ≡ Unread f → Q f) → OnUnread Q (wayOfPage at x)
-  unfolding wayOfPage
-  on-page at (Unread f) so = so f refl
-  on-page at (Word e) so = on-either-arm (OnUnread Q) (pageInvalid e) tt (on-either-arm (OnUnread Q) (pageMalformed e) tt tt)
-
-  on-segment : (at index : ℕ) (x : TableEntry) → ((f : Failure) → x ≡ Unread f → Q f) → OnUnread Q (wayOfSegment read at index x)
-  unfolding wayOfSegment
-  on-segment at index (Unread f) so = so f refl
-  on-segment at index (Word e) so =
-      on-either-arm (OnUnread Q) (segmentInvalid e) tt
-      (on-either-arm (OnUnread Q) (segmentMalformed e) tt
-      (on-either-arm (OnUnread Q) (pastPageTable e index) tt (on-page (pageEntryAt e index) (read (pageEntryAt e index)) (own (pageEntryAt e index)))))
-
-  on-way : (designation a : ℕ) → OnUnread Q (way read designation a)
-  unfolding way
-  on-way designation a =
-      on-either-arm (OnUnread Q) (pastSegmentTable designation (segmentIndex a)) tt
-      (on-segment (segmentEntryAt designation (segmentIndex a)) (pageIndex a) _ (own (segmentEntryAt designation (segmentIndex a))))
+on-way : (Q : Failure → Type 0) (read : ℕ → TableEntry) → ((at : ℕ) (f : Failure) → read at ≡ Unread f → Q f) → (designation a : ℕ)
+    → OnUnread Q (way read designation a)
+on-way Q read own designation a = by-way (went read designation a)
+  where
+    by-way : {w : Way} → Went read designation a w → OnUnread Q w
+    by-way (pastSegments past) = tt
+    by-way (lacksSegment is) = own _ _ is
+    by-way (badSegment segment) = tt
+    by-way (pastPages segment past) = tt
+    by-way (lacksPage to is) = own _ _ is
+    by-way (badPage to is) = tt
+    by-way (goodPage to is) = tt
 
 -- an access that is an exception of the guest, and no protection, is one of the guest's walk, or lies past the extent
 pub access-excepts : (g : Guest) (d : ℕ) (s k : List ℕ) (c : Cpu) (store : Bool) (a : ℕ) (f : Failure) → touchOf g (host d s k) c store a ≡ Denied f
