@@ -249,6 +249,7 @@ def record():
 # The crates, from crates.txt. Layers, with a place in each layer that a long line passes.
 
 CALLERS = "C programs"
+NO_CODE = {"machine", "laws", "witnesses"}
 ROW, BOX, TALL = 64, 108, 32
 
 
@@ -409,9 +410,9 @@ def crates():
     for name in listed:
         node = (layer_of(listed, name), name)
         left, y = x[node] - BOX / 2, height - ROW * (node[0] + 1)
-        fill, dash = {CALLERS: (PLAIN, "4 3"), "machine": (GUEST, "")}.get(name, (STATE, ""))
+        fill, dash = (PLAIN, "4 3") if name == CALLERS else (GUEST if name in NO_CODE else STATE, "")
         drawn += box(left, y, BOX, TALL, [name], fill, 12.5, dash)
-    key = legend(30, height + 2, [(GUEST, "the definition"), (STATE, "code, proved"), (PLAIN, "C, tested")])
+    key = legend(30, height + 2, [(GUEST, "the definition, and proofs about it"), (STATE, "code, proved"), (PLAIN, "C, tested")])
     width = max(max(x.values()) + BOX / 2 + 30, 520)
     return svg(width, height + 24, "The crates: an arrow leads to what is imported", drawn + key)
 

@@ -19,7 +19,7 @@ use Rattle.machine.specs.Failures.{addressing, hostFault, walkException}
 use Rattle.machine.specs.Walk.{frameOf, pageProtected}
 use Rattle.machine.specs.Host.{host, hostVirtual, inFrame, hostPage, backing, view}
 use Rattle.machine.specs.Addresses.{prefixed, guestEntry}
-use Rattle.machine.proofs.Pages.{prefixed-keeps-offset, backing-in-storage}
+use Rattle.laws.proofs.Pages.{prefixed-keeps-offset, backing-in-storage}
 use Rattle.storage.specs.Steps.{inside}
 use Rattle.storage.specs.Found.{pageFound}
 use Rattle.storage.proofs.Found.{found-page, found-stopped}

@@ -18,8 +18,8 @@ use Rattle.machine.specs.Psw.{wrap}
 use Rattle.machine.specs.Host.{Host, Located, places, inFrame, backing, view, stored, markKey, marked}
 use Rattle.machine.specs.Addresses.{Access, reached, denied, access, all, stopped, accesses, span}
 use Rattle.machine.specs.Interruptions.{withBytes, bytesOf}
-use Rattle.machine.proofs.PageBytes.{bytesFrom, span-append, wrap-by-mode, span-of-wrap, joined, accesses-append, stored-append, marked-append, withBytes-append, places-append, bytesOf-append, length-bytesFrom, bytesOf-bytesFrom, stored-in-page, marked-in-page}
-use Rattle.machine.proofs.Pages.{accesses-denied, backing-in-page, backing-in-storage, reached-is-backed, accesses-in-page}
+use Rattle.laws.proofs.PageBytes.{bytesFrom, span-append, wrap-by-mode, span-of-wrap, joined, accesses-append, stored-append, marked-append, withBytes-append, places-append, bytesOf-append, length-bytesFrom, bytesOf-bytesFrom, stored-in-page, marked-in-page}
+use Rattle.laws.proofs.Pages.{accesses-denied, backing-in-page, backing-in-storage, reached-is-backed, accesses-in-page}
 use Rattle.address.specs.declared.Place.{Place}
 use Rattle.address.specs.declared.Place.the-variants.{At, Denied}
 use Rattle.address.specs.declared.Operand.{Operand}

@@ -17,7 +17,7 @@ use Rattle.machine.specs.Refusals.{framesOf}
 use Rattle.machine.specs.Psw.{wrap}
 use Rattle.machine.specs.Host.{Host, Located, host, inFrame, backing, view}
 use Rattle.machine.specs.Addresses.{Access, reached, denied, access}
-use Rattle.machine.proofs.Pages.{backing-in-page, backing-in-storage, reached-is-backed, access-in-page}
+use Rattle.laws.proofs.Pages.{backing-in-page, backing-in-storage, reached-is-backed, access-in-page}
 use Rattle.address.specs.declared.Place.{Place}
 use Rattle.address.specs.declared.Place.the-variants.{At, Denied}
 use Rattle.address.specs.declared.Operand.{Operand}

@@ -25,8 +25,8 @@ use Rattle.machine.specs.Walk.{segmentIndex, pastSegmentTable, segmentInvalid, 
 use Rattle.machine.specs.Host.{Host, Cell, host, hostVirtual, inFrame, backing, hostPage, cellOf, view}
 use Rattle.machine.specs.Addresses.{prefixed, formatGood, byteOf, entryOf, guestEntry, settle, inPage, lowProtected, realPage, access, reached, denied}
 use Rattle.machine.proofs.Backing.{no-failure, tested, ends-at-page, page-in-storage}
-use Rattle.machine.proofs.Pages.{prefixed-keeps-offset, backing-in-page, backing-in-storage}
 use Rattle.machine.proofs.Tests.{on-either-arm}
+use Rattle.laws.proofs.Pages.{prefixed-keeps-offset, backing-in-page, backing-in-storage}
 use Rattle.storage.specs.Steps.{tableLeads, segmentLeads}
 use Rattle.storage.proofs.Steps.{walk-in-steps}
 use Rattle.address.specs.Touching.{Aligned, Inside, Small, Backed, entryBehind, settled, guestProtects, touched, placed, touchedBy}

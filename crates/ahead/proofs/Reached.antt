@@ -11,7 +11,7 @@ use Rattle.machine.specs.Psw.{wrap}
 use Rattle.machine.specs.Host.{Host, view}
 use Rattle.machine.specs.Addresses.{access, accesses, span}
 use Rattle.machine.specs.Outcomes.{Progress}
-use Rattle.machine.proofs.PageBytes.{wrap-by-mode}
+use Rattle.laws.proofs.PageBytes.{wrap-by-mode}
 use Rattle.address.specs.declared.Operand.{Operand}
 use Rattle.address.specs.declared.Operand.the-variants.{Open, Shut}
 use Rattle.address.specs.Operands.{operandOf}

@@ -24,8 +24,8 @@ use Rattle.machine.specs.Addresses.{realAccess, settle, denied, Accesses, all, 
 use Rattle.machine.specs.Outcomes.{Outcome, intercepted, faulted, Progress}
 use Rattle.machine.specs.Interruptions.{Areas, programAreas, fieldsBeside, interrupt, afterException, programFields, exception}
 use Rattle.machine.specs.Execute.{r1, finish, fetching, storing, summed, loadRegister, add, subtract, branch, branchRegister, branchIndexed, supervisorCall, loadAddress, store, load, loadPsw, controlsFrom, rangeCount, storeControl, loadControl, storeClock, setTimer, storeTimer, interceptInstruction, execute}
-use Rattle.machine.proofs.Pages.{backing-in-page}
 use Rattle.machine.proofs.Words.{length-wordsBytes}
+use Rattle.laws.proofs.Pages.{backing-in-page}
 use Rattle.interval.specs.Standing.{wordAddress}
 use Rattle.interval.proofs.Behind.{prefixed-low, wordBy, word-open}
 use Rattle.ahead.specs.Completing.{isComplete, allReached, reaches, performs}

@@ -32,8 +32,8 @@ use Rattle.machine.proofs.Laws.{good-length, length-withResults, guest-of-withR
 use Rattle.machine.proofs.Runs.{runOf-cases}
 use Rattle.machine.proofs.Words.{sets-words-same}
 use Rattle.machine.proofs.Entry.{entry-version}
-use Rattle.machine.proofs.Lens.{withCpu-cpuOf}
 use Rattle.machine.proofs.Verdicts.{accepted-test, keys-of-right, accepted-length, accepted-version, accepted-residue}
+use Rattle.laws.proofs.Lens.{withCpu-cpuOf}
 use Rattle.refusals.proofs.Parts.{long-record}
 use Rattle.run.specs.declared.Ended.{Ended}
 use Rattle.run.specs.Running.{plainAt, recordAt, machineAt, OfGuest, Ends}

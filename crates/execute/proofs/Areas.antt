@@ -23,8 +23,8 @@ use Rattle.machine.specs.Addresses.{prefixed, reached, denied, settle, realAcce
 use Rattle.machine.specs.Outcomes.{faulted, Progress}
 use Rattle.machine.specs.Interruptions.{withBytes, bytesOf, Areas, interrupt}
 use Rattle.machine.specs.Run.{markedBy}
-use Rattle.machine.proofs.PageBytes.{bytesFrom, joined, accesses-append, stored-append, marked-append, withBytes-append, places-append, length-bytesFrom, word-of-bytesFrom, stored-in-page, marked-in-page, referenced-twice, changed-twice}
-use Rattle.machine.proofs.Pages.{backing-in-page}
+use Rattle.laws.proofs.PageBytes.{bytesFrom, joined, accesses-append, stored-append, marked-append, withBytes-append, places-append, length-bytesFrom, word-of-bytesFrom, stored-in-page, marked-in-page, referenced-twice, changed-twice}
+use Rattle.laws.proofs.Pages.{backing-in-page}
 use Rattle.address.specs.Operands.{markFrame}
 use Rattle.execute.specs.After.{eventOf, cpuAfter, storageAfter, keysAfter, Completes}
 use Rattle.execute.proofs.Operations.{places-withBytes}

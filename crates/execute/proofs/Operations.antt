@@ -17,7 +17,7 @@ use Rattle.machine.specs.Outcomes.{Progress}
 use Rattle.machine.specs.Interruptions.{withBytes, exception}
 use Rattle.machine.specs.Execute.{finish, fetching, storing}
 use Rattle.machine.specs.Run.{markedBy}
-use Rattle.machine.proofs.PageBytes.{marked-append, referenced-twice, changed-twice}
+use Rattle.laws.proofs.PageBytes.{marked-append, referenced-twice, changed-twice}
 use Rattle.address.specs.declared.Operand.the-variants.{Open, Shut}
 use Rattle.address.specs.Operands.{operandOf, markOperand}
 use Rattle.address.proofs.Operands.{operand-shut, operand-open}

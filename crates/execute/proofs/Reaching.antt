@@ -18,7 +18,7 @@ use Rattle.machine.specs.Host.{Host, host, view, referenced, changed}
 use Rattle.machine.specs.Outcomes.{Progress}
 use Rattle.machine.specs.Interruptions.{exception}
 use Rattle.machine.specs.Execute.{next, finish, fetching, storing}
-use Rattle.machine.proofs.PageBytes.{wrap-by-mode}
+use Rattle.laws.proofs.PageBytes.{wrap-by-mode}
 use Rattle.address.specs.declared.Operand.{Operand}
 use Rattle.address.specs.declared.Operand.the-variants.{Open, Shut}
 use Rattle.address.specs.Operands.{operandOf, markOperand}

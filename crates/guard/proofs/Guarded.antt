@@ -27,7 +27,7 @@ use Rattle.machine.specs.Host.{host, hostVirtual, inFrame, hostEntry, inStorage
 use Rattle.machine.specs.Addresses.{prefixed, guestEntry, formatGood, lowProtected, realPage}
 use Rattle.machine.proofs.Laws.{word-of-bytes}
 use Rattle.machine.proofs.Backing.{same-test}
-use Rattle.machine.proofs.Pages.{prefixed-keeps-offset, backing-in-storage}
+use Rattle.laws.proofs.Pages.{prefixed-keeps-offset, backing-in-storage}
 use Rattle.storage.specs.Steps.{readThrough, tableLeads, segmentLeads}
 use Rattle.storage.proofs.Steps.{walk-in-steps}
 use Rattle.address.specs.Touching.{seen, entryBehind, touched, touchOf}

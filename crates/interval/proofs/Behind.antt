@@ -23,8 +23,8 @@ use Rattle.machine.specs.Addresses.{prefixed, reached, denied, settle, realAcce
 use Rattle.machine.specs.Interruptions.{withBytes, bytesOf}
 use Rattle.machine.specs.Run.{Machine, hostOf, behindOf, wordAccesses, wordIn}
 use Rattle.machine.proofs.Backing.{no-failure, tested, ends-at-page, page-in-storage}
-use Rattle.machine.proofs.PageBytes.{bytesFrom, word-of-bytesFrom, stored-in-page}
-use Rattle.machine.proofs.Pages.{backing-in-page, backing-in-storage}
+use Rattle.laws.proofs.PageBytes.{bytesFrom, word-of-bytesFrom, stored-in-page}
+use Rattle.laws.proofs.Pages.{backing-in-page, backing-in-storage}
 use Rattle.interval.specs.Standing.{wordAddress, wordOn, Short, Stands, InStorage}
 
 -- real block 0 is the prefix block

@@ -1,4 +1,4 @@
--- Proofs of the statements of specs/, and the laws that they share.
+-- Proofs of the statements of specs/, but for those in crate witnesses, and the laws that they share.
 pub mod Tests
 pub mod Laws
 pub mod Verdicts
@@ -20,11 +20,5 @@ pub mod Effects
 pub mod Twins
 pub mod Isolation
 pub mod WhichTable
-pub mod OneFrame
-pub mod IsolationIsNotEmpty
 pub mod IntervalTimer
-pub mod TimedRuns
-pub mod PageBytes
-pub mod Pages
 pub mod Words
-pub mod Lens

@@ -90,7 +90,7 @@ IntervalTimer = (n : Numbers) (r storage keys : List ℕ) (end : End) (units : �
     → Timed n r storage keys units → (fallen : ℕ) × TimedAs n r storage keys units end (runOf n r storage keys) fallen
 
 -- What `Timed` asks can be met: a run with time 1 of one unit, in which the word falls from zero and sets T, and an exit, which adds
--- nothing. The key of the word's frame gets the mark of the text's fetch, and none of the update.
+-- nothing. The key of the word's frame gets the mark of the text's fetch, and none of the update. The proof is in crate witnesses.
 pub record FallsFromZero (n : Numbers) (r storage keys : List ℕ) : Type 0 where
   pub timed : Timed n r storage keys 1
   pub ended : (runOf n r storage keys) .answer ≡ Ended (Intercepted (Program operation 1 0)) 1

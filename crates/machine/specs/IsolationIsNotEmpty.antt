@@ -1,4 +1,4 @@
--- What `Isolation` assumes can be met by two hosts that differ, and its part `apart` cannot be left out. The proofs are in proofs/.
+-- What `Isolation` assumes can be met by two hosts that differ, and its part `apart` cannot be left out. The proofs are in crate witnesses.
 use Prim.Native.Nat.{ℕ, _/_, _<_}
 use mathlib.Core.Path.{_≡_}
 use mathlib.Core.List.{List}

@@ -21,7 +21,7 @@ use Rattle.machine.specs.Psw.{datOn, accessKey}
 use Rattle.machine.specs.Failures.{protection, exceptionOf}
 use Rattle.machine.specs.Host.{Host, host, inFrame, hostPage, backing, cellOf, view, referenced, changed}
 use Rattle.machine.specs.Addresses.{prefixed, byteOf, entryOf, guestEntry, formatGood, realPage, keyProtects, lowProtected}
-use Rattle.machine.proofs.Pages.{realPage-of-page, prefixed-of-page, prefixed-keeps-offset, backing-in-page, backing-in-storage}
+use Rattle.laws.proofs.Pages.{realPage-of-page, prefixed-of-page, prefixed-keeps-offset, backing-in-page, backing-in-storage}
 use Rattle.address.specs.declared.Place.{Place}
 use Rattle.address.specs.declared.Place.the-variants.{At, Denied}
 use Rattle.address.specs.Touching.{Backed, settled, guestProtects, touched, touchOf}

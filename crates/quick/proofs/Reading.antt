@@ -15,7 +15,7 @@ use Rattle.machine.specs.Psw.{wrap, instructionAddress}
 use Rattle.machine.specs.Host.{Host, view}
 use Rattle.machine.specs.Opcodes.{lengthOf, opcodeOf}
 use Rattle.machine.specs.Units.{firstText, secondText, started, instruction}
-use Rattle.machine.proofs.PageBytes.{wrap-by-mode}
+use Rattle.laws.proofs.PageBytes.{wrap-by-mode}
 use Rattle.address.specs.declared.Operand.the-variants.{Open}
 use Rattle.address.specs.Touching.{seen}
 use Rattle.address.specs.Operands.{operandOf, inOnePage, toPageEnd}

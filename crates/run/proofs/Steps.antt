@@ -23,9 +23,9 @@ use Rattle.machine.specs.Units.{unit}
 use Rattle.machine.specs.Run.{Machine, hostOf, requestedBy, unitFrom, behindOf, markedBy, afterUnit, afterInterception, clearsT, answered, goes, ends, ticked, stepOf, step, run}
 use Rattle.machine.proofs.Laws.{guest-of-withCpu}
 use Rattle.machine.specs.Record.{Sixteen, Bounded}
-use Rattle.machine.proofs.Lens.{cpu-of-withCpu, withCpu-withCpu}
 use Rattle.machine.proofs.Runs.{more}
 use Rattle.machine.proofs.Timer.{asked-for}
+use Rattle.laws.proofs.Lens.{cpu-of-withCpu, withCpu-withCpu}
 use Rattle.execute.proofs.Reaching.{not-both}
 use Rattle.execute.specs.declared.Done.{Done}
 use Rattle.execute.specs.declared.Event.{Event}

@@ -22,8 +22,8 @@ use Rattle.machine.specs.Addresses.{stopped, whenReached}
 use Rattle.machine.specs.Units.{unit}
 use Rattle.machine.specs.Run.{Machine, hostOf, requestedBy, unitFrom, afterInterception, clearsT, answered, goes, ends, withTick, withWord, wordAccesses, residueFrom, risenTo, fallenTo, ticked}
 use Rattle.machine.proofs.Laws.{byte-of-withInterval, guest-of-withCpu, guest-of-withInterval, length-withCpu, length-withInterval}
-use Rattle.machine.proofs.Lens.{cpu-of-withCpu, withCpu-withCpu}
 use Rattle.machine.proofs.Ticks.{request-of-withInterval, residue-of-withInterval}
+use Rattle.laws.proofs.Lens.{cpu-of-withCpu, withCpu-withCpu}
 use Rattle.interval.specs.Standing.{StandsAt}
 use Rattle.run.specs.Running.{timedAt}
 use Rattle.run.proofs.Fields.{withInterval-withCpu, withRequest-withInterval, withInterval-withInterval}

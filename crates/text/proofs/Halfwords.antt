@@ -16,8 +16,8 @@ use Rattle.machine.specs.declared.Guest.{Guest}
 use Rattle.machine.specs.Refusals.{framesOf}
 use Rattle.machine.specs.Psw.{wrap, instructionAddress}
 use Rattle.machine.specs.Host.{Host, host, referenced}
-use Rattle.machine.proofs.PageBytes.{wrap-by-mode, referenced-twice}
-use Rattle.machine.proofs.Pages.{wrap-in-page}
+use Rattle.laws.proofs.PageBytes.{wrap-by-mode, referenced-twice}
+use Rattle.laws.proofs.Pages.{wrap-in-page}
 use Rattle.address.specs.declared.Operand.{Operand}
 use Rattle.address.specs.declared.Operand.the-variants.{Open, Shut}
 use Rattle.address.specs.Operands.{operandOf, markFrame}

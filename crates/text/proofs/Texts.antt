@@ -26,7 +26,7 @@ use Rattle.machine.specs.Opcodes.{opcodeOf}
 use Rattle.machine.specs.Outcomes.{Outcome, Progress}
 use Rattle.machine.specs.Interruptions.{exception}
 use Rattle.machine.specs.Units.{decoded, halfword, reading, firstText, secondText, thirdText, halfOf, opcodeIn, fetchThird, fetchSecond, instruction, started}
-use Rattle.machine.proofs.PageBytes.{span-of-wrap, marked-append, referenced-twice}
+use Rattle.laws.proofs.PageBytes.{span-of-wrap, marked-append, referenced-twice}
 use Rattle.address.specs.declared.Operand.{Operand}
 use Rattle.address.specs.declared.Operand.the-variants.{Open, Shut}
 use Rattle.address.specs.Touching.{seen}

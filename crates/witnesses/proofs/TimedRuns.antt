@@ -8,29 +8,29 @@ use mathlib.Core.List.{List, [], _∷_}
 use mathlib.Core.Logic.{inr}
 use lib.ListN.{replicate, getD-replicate}
 use lib.Seq.{sets}
 use Rattle.machine.specs.declared.Numbers.{Numbers}
 use Rattle.machine.specs.Words.{wordAt, doubleAt, wordsAt, wordBytes, wordsBytes}
 use Rattle.machine.specs.Record.{guestOf, cpuOf, pswOf, pswBytes, withCpu, withResults, withRequest, withInterval}
 use Rattle.machine.specs.Interval.{active, falls, residueAfter, wordAfter, turnsNegative, requestAfter}
 use Rattle.machine.specs.Refusals.{wrongLength, wrongVersion, wrongStorage, wrongKeys, wrongBudget, wrongTime, used, wrongInterval, reservedUsed, runVerdict}
 use Rattle.machine.specs.Entry.{entryGood, modeInstalled, extentFits, prefixFits, prefixShort}
 use Rattle.machine.specs.Psw.{notInstalled, malformed, wrap, withPsw, withTimer, withGeneral, withAddress, advanced}
 use Rattle.machine.specs.Time.{timerAfter, charged}
 use Rattle.machine.specs.Walk.{walk, walkSegment, walkPage}
 use Rattle.machine.specs.Host.{Located, hostEntry, inStorage, hostPage, backing, cellOf, view, storeByte, stored, byteIn, referenced, changed, markKey, marked}
 use Rattle.machine.specs.Addresses.{prefixed, byteOf, realPage, settle, realAccess, keyProtects, inPage, lowProtected, access, andThen, accesses, span, upFrom, whenReached}
 use Rattle.machine.specs.Opcodes.{lengthOf, numberOf, has, find, opcodeOf}
 use Rattle.machine.specs.Outcomes.{Outcome, completed, intercepted, faulted}
 use Rattle.machine.specs.Interruptions.{withBytes, afterException, exception}
 use Rattle.machine.specs.Execute.{addressPart, operandAddress, finish, loadRegister, execute}
 use Rattle.machine.specs.Units.{intercepts, misaligned, decoded, halfword, reading, fetchThird, fetchSecond, instruction, unit}
 use Rattle.machine.specs.Run.{Machine, hostOf, requestedBy, unitFrom, behindOf, markedBy, afterUnit, afterInterception, clearsT, answered, withTick, withWord, wordAccesses, wordIn, residueFrom, risenTo, fallenTo, ticked, stepOf, step, counted, onward, run}
 use Rattle.machine.specs.Answers.{reasonCode, results, resultsWith, reasonResults, endResults}
 use Rattle.machine.specs.Operations.{resultOf, machineOf, runAs, runOf}
 use Rattle.machine.specs.Theorems.{none}
 use Rattle.machine.specs.IntervalTimer.{timerWord, LeavesWord, FallsFromZero, TimedRunsExist}
 use Rattle.machine.proofs.Laws.{getD-sets-beside}
-use Rattle.machine.proofs.OneFrame.{OneFrame, entry-in-frame-t, guest-frame-is-0}
+use Rattle.witnesses.proofs.OneFrame.{OneFrame, entry-in-frame-t, guest-frame-is-0}
 
 -- A System/370 guest of one block from origin 0, its timer active and a residue short of a period, with a BC PSW at address 8. A program
 -- exception is code 8.

@@ -1,4 +1,4 @@
--- The proofs of specs/IsolationIsNotEmpty: a guest on two hosts, with the host's tables in a frame of their own, and in the guest's.
+-- The proofs of machine's specs/IsolationIsNotEmpty: a guest on two hosts, with the host's tables in a frame of their own, and in the guest's.
 use Prim.Native.Nat.{ℕ, zero, suc, _+_, _*_, _<_}
 use native.Mathlib.Omega.{arith}
 use mathlib.Core.Path.{_≡_, refl, sym, _∙_}
@@ -7,32 +7,32 @@ use mathlib.Core.List.{List, [], _∷_}
 use mathlib.Core.Logic.{_≢_, inr}
 use lib.ListN.{set, replicate, length-set, getD-replicate}
 use lib.Seq.{sets, getD-set-other}
 use Rattle.machine.specs.declared.Answer.the-variants.{Ended}
 use Rattle.machine.specs.declared.End.the-variants.{Intercepted}
 use Rattle.machine.specs.declared.Numbers.{Numbers}
 use Rattle.machine.specs.declared.Reason.the-variants.{Instruction, Program}
 use Rattle.machine.specs.Words.{byteAt, wordAt, wordsAt, wordBytes, wordsBytes}
 use Rattle.machine.specs.Record.{guestOf, cpuOf, pswOf, pswBytes, withCpu, withResults}
 use Rattle.machine.specs.Refusals.{wrongLength, wrongVersion, wrongStorage, wrongKeys, wrongBudget, wrongTime, used, wrongInterval, reservedUsed, runVerdict}
 use Rattle.machine.specs.Interval.{active}
 use Rattle.machine.specs.Entry.{entryGood, modeInstalled, extentFits, prefixFits, prefixShort}
 use Rattle.machine.specs.Psw.{notInstalled, malformed, wrap, withPsw, withTimer, withAddress, advanced}
 use Rattle.machine.specs.Time.{charged}
 use Rattle.machine.specs.Walk.{walk, walkSegment, walkPage}
 use Rattle.machine.specs.Host.{hostEntry, inStorage, hostPage, backing, cellOf, view, storeByte, stored}
 use Rattle.machine.specs.Frames.{InExtent}
 use Rattle.machine.specs.Addresses.{prefixed, realPage, settle, keyProtects, inPage, lowProtected, access, andThen, accesses, span, whenReached}
 use Rattle.machine.specs.Opcodes.{lengthOf, numberOf, has, find, opcodeOf}
 use Rattle.machine.specs.Interruptions.{withBytes, exception}
 use Rattle.machine.specs.Execute.{addressPart, operandAddress, indexedAddress, finish, storing, store, interceptInstruction, execute}
 use Rattle.machine.specs.Units.{intercepts, misaligned, decoded, halfword, reading, fetchThird, fetchSecond, instruction, unit}
 use Rattle.machine.specs.Run.{hostOf, requestedBy, unitFrom, behindOf, afterUnit, afterInterception, answered, ticked, stepOf, step, counted, onward, run}
 use Rattle.machine.specs.Answers.{results, endResults}
 use Rattle.machine.specs.Operations.{resultOf, machineOf, runAs, runOf}
 use Rattle.machine.specs.Isolation.{RunFrame, AgreeButApart}
 use Rattle.machine.specs.IsolationIsNotEmpty.{AgreeingHostsExist, EntriesMustBeApart}
 use Rattle.machine.proofs.Laws.{getD-sets-beside, SameBytes}
-use Rattle.machine.proofs.OneFrame.{OneFrame, entry-in-frame-t, guest-frame-is-0}
+use Rattle.witnesses.proofs.OneFrame.{OneFrame, entry-in-frame-t, guest-frame-is-0}
 
 -- A guest of one block from origin 0, with the PSW 00080000 80000008 and 1000 hex in general register 1. A program exception is code 8.
 description : List ℕ

@@ -8,22 +8,22 @@ use mathlib.Core.List.{List}
 use borrow.Author.Tests.{ltb-true, lt-ltb}
 use lib.Dec.{ltb, eqb}
 use lib.ListN.{length, getD}
 use Rattle.machine.specs.declared.Cpu.{Cpu}
 use Rattle.machine.specs.declared.Guest.{Guest}
 use Rattle.machine.specs.declared.Failure.{Failure}
 use Rattle.machine.specs.declared.Walk.{Walk}
 use Rattle.machine.specs.declared.Walk.the-variants.{Page, Failed}
 use Rattle.machine.specs.Words.{byteAt}
 use Rattle.machine.specs.Psw.{wrap, control}
 use Rattle.machine.specs.Entry.{extentBytes}
 use Rattle.machine.specs.Refusals.{framesOf}
 use Rattle.machine.specs.Failures.{hostFault, walkException}
 use Rattle.machine.specs.Frames.{ValidPage, pageOf}
 use Rattle.machine.specs.Walk.{walk, frameOf, pageProtected}
 use Rattle.machine.specs.Host.{Host, Cell, Located, hostVirtual, hostEntry, inStorage, hostPage, backing, inFrame, cellOf, view}
 use Rattle.machine.specs.Addresses.{prefixed, guestEntry, realPage, Access, reached, denied, settle, keyProtects, inPage, lowProtected, access, all, stopped, andThen, accesses, span}
 use Rattle.machine.proofs.Backing.{walk-by-page, no-failure, tested, ends-at-page, finds-page, page-in-storage}
-use Rattle.machine.proofs.PageBytes.{bytesFrom, wrap-by-mode}
+use Rattle.laws.proofs.PageBytes.{bytesFrom, wrap-by-mode}
 
 exception-of-page : (a b : ℕ) → a / 4096 ≡ b / 4096 → walkException a ≡ walkException b
 unfolding walkException

@@ -1,0 +1,3 @@
+pub mod PageBytes
+pub mod Pages
+pub mod Lens

@@ -1,0 +1,3 @@
+pub mod OneFrame
+pub mod IsolationIsNotEmpty
+pub mod TimedRuns
