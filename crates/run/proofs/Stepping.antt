@@ -25,10 +25,11 @@ use Rattle.execute.specs.declared.Event.{Event}
 use Rattle.execute.specs.declared.Event.the-variants.{Completed, Intercepted, Faulted}
 use Rattle.execute.specs.After.{eventOf, cpuAfter, storageAfter, keysAfter, leftBy, Left}
 use Rattle.execute.proofs.Reaching.{not-both}
-use Rattle.run.specs.Running.{isCompleted, ofXa, timedAt}
+use Rattle.charging.specs.Ending.{isCompleted, ofXa}
+use Rattle.run.specs.Running.{timedAt}
 use Rattle.interval.specs.Standing.{StandsAt}
-use Rattle.run.specs.Ticking.{requestBehind}
-use Rattle.run.proofs.Steps.{record-of-xa}
+use Rattle.charging.specs.Ticking.{requestBehind}
+use Rattle.charging.proofs.States.{record-of-xa}
 use Rattle.run.proofs.Ticks as here
 
 -- what a unit leaves: how it ended, and the state, time charged where it completed

@@ -1,28 +1,25 @@
 -- A run with its state in hand, unit by unit.
 -- Assumes nothing.
-use Prim.Native.Nat.{ℕ, zero, suc, _+_, _-_, _^_, _≤_, _<_}
+use Prim.Native.Nat.{ℕ, _+_, _-_, _≤_}
 use native.Mathlib.Omega.{arith}
 use mathlib.Core.Path.{_≡_, refl, ap, sym, _∙_}
 use mathlib.Core.Bool.{Bool, true, false, cond, not, _&&_, false≢true}
-use mathlib.Core.List.{List, [], _∷_}
-use lib.ListN.{length, length-set, getD, set}
+use mathlib.Core.List.{List}
+use lib.ListN.{length}
 use Rattle.machine.specs.declared.Cpu.{Cpu}
-use Rattle.machine.specs.declared.End.{End}
-use Rattle.machine.specs.declared.End.the-variants as end
 use Rattle.machine.specs.declared.Guest.{Guest}
 use Rattle.machine.specs.declared.Numbers.{Numbers}
 use Rattle.machine.specs.declared.Reason.{Reason}
 use Rattle.machine.specs.Words.{bit}
 use Rattle.machine.specs.Record.{recordLength, system370Mode, isSystem370, guestOf, cpuOf, withCpu, requestOf, withRequest}
 use Rattle.machine.specs.Interval.{active, pending, withoutT}
-use Rattle.machine.specs.Psw.{withTimer}
 use Rattle.machine.specs.Time.{clockAfter, charged}
 use Rattle.machine.specs.Host.{Host, host, backing, view, stored}
 use Rattle.machine.specs.Outcomes.{Outcome, completed, intercepted, faulted}
 use Rattle.machine.specs.Units.{unit}
 use Rattle.machine.specs.Run.{Machine, hostOf, requestedBy, unitFrom, behindOf, markedBy, afterUnit, afterInterception, clearsT, answered, goes, ends, ticked, stepOf, step, run}
 use Rattle.machine.proofs.Laws.{guest-of-withCpu}
-use Rattle.machine.specs.Record.{Sixteen, Bounded}
+use Rattle.machine.specs.Record.{Bounded}
 use Rattle.machine.proofs.Runs.{more}
 use Rattle.machine.proofs.Timer.{asked-for}
 use Rattle.laws.proofs.Lens.{cpu-of-withCpu, withCpu-withCpu}
@@ -30,26 +27,9 @@ use Rattle.execute.proofs.Reaching.{not-both}
 use Rattle.execute.specs.declared.Done.{Done}
 use Rattle.execute.specs.declared.Event.{Event}
 use Rattle.execute.specs.After.{eventOf, cpuAfter, storageAfter, keysAfter, leftBy, Left}
-use Rattle.run.specs.Running.{isCompleted, endOf, ofMode, ofXa, plainAt, Remains}
-
--- the record does not tell the architectures apart but by the mode
-pub record-of-xa : (c : Cpu) (r : List ℕ) → withCpu (ofXa c) r ≡ withCpu c r
-unfolding withCpu
-record-of-xa c r = refl
-
--- a charge leaves the PSW as it is
-pub charged-mode : (b : Bool) (c : Cpu) (time : ℕ) → (ofXa (charged (ofMode b c) time) ≡ ofXa (charged c time)) × ((charged (ofMode b c) time) .psw .system370 ≡ b)
-unfolding charged withTimer
-charged-mode b c time = (refl, refl)
-
--- a state of this architecture
-pub of-mode : (b : Bool) (c : Cpu) → c .psw .system370 ≡ b → ofMode b c ≡ c
-of-mode b c same = λ i. record {
-  psw = record { left = c .psw .left; right = c .psw .right; system370 = sym same i };
-  timer = c .timer;
-  control = c .control;
-  general = c .general;
-}
+use Rattle.charging.specs.Ending.{isCompleted, endOf, ofXa}
+use Rattle.charging.proofs.States.{record-of-xa}
+use Rattle.run.specs.Running.{plainAt, Remains}
 
 -- the interval timer of a 370-XA guest is not active
 pub never-active : (g : Guest) → system370Mode (g .mode) ≡ false → active g ≡ false
@@ -168,14 +148,3 @@ remains-start n budget start =
 
     all : budget ≡ budget - 0
     all = omega arith
-
--- one of sixteen words, set
-pub sixteen-set : (l : List ℕ) (i v : ℕ) → Sixteen l → v < 2 ^ 32 → Sixteen (set l i v)
-sixteen-set l i v words small = record { long = length-set l i v ∙ words .long; small = λ j. by-list l i j (words .small) }
-  where
-    by-list : (l : List ℕ) (i j : ℕ) → ((j : ℕ) → getD l j 0 < 2 ^ 32) → getD (set l i v) j 0 < 2 ^ 32
-    by-list [] i j each = each j
-    by-list (w ∷ ws) zero zero each = small
-    by-list (w ∷ ws) zero (suc j) each = each (suc j)
-    by-list (w ∷ ws) (suc i) zero each = each zero
-    by-list (w ∷ ws) (suc i) (suc j) each = by-list ws i j (λ j. each (suc j))

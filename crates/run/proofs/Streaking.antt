@@ -24,7 +24,8 @@ use Rattle.pages.specs.Keeping.{Holds, Inside}
 use Rattle.pages.proofs.Holding.{holds-alike, holds-marked, holds-state}
 use Rattle.quick.specs.declared.Quick.{Quick}
 use Rattle.quick.specs.Stepping.{doneOf, Spares}
-use Rattle.run.specs.Running.{isCompleted, ofXa, plainAt, Remains}
+use Rattle.charging.specs.Ending.{isCompleted, ofXa}
+use Rattle.run.specs.Running.{plainAt, Remains}
 use Rattle.run.proofs.Steps.{never-active, off-goes}
 use Rattle.run.proofs.Remaining.{one-more}
 

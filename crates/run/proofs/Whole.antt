@@ -4,7 +4,6 @@ use Prim.Native.Nat.{ℕ, _-_, _<_}
 use mathlib.Core.Path.{_≡_, refl, ap, sym, subst, _∙_}
 use mathlib.Core.Bool.{Bool, true, false, cond, _&&_, false≢true}
 use mathlib.Core.List.{List}
-use lib.ListN.{length}
 use Rattle.machine.specs.declared.Cpu.{Cpu}
 use Rattle.machine.specs.declared.End.{End}
 use Rattle.machine.specs.declared.Failure.{Failure}
@@ -12,29 +11,28 @@ use Rattle.machine.specs.declared.Guest.{Guest}
 use Rattle.machine.specs.declared.Numbers.{Numbers}
 use Rattle.machine.specs.Words.{wordAt}
 use Rattle.machine.specs.Record.{system370Mode, guestOf, withCpu, withInterval, Bounded}
-use Rattle.machine.specs.Interval.{active, period, falls, residueAfter, pending, requestAfter}
+use Rattle.machine.specs.Interval.{active, period, residueAfter, pending, requestAfter}
 use Rattle.machine.specs.Host.{Host, host, view}
 use Rattle.machine.specs.Outcomes.{Outcome, completed, intercepted, faulted}
 use Rattle.machine.specs.Units.{unit}
 use Rattle.machine.specs.Time.{clockAfter, charged}
-use Rattle.machine.specs.Run.{Machine, hostOf, wordAccesses, goes, ends, step, Ended as Run, run}
+use Rattle.machine.specs.Run.{hostOf, wordAccesses, goes, ends, step, Ended as Run, run}
 use Rattle.machine.proofs.Runs.{more}
 use Rattle.execute.specs.declared.Done.{Done}
 use Rattle.execute.specs.declared.Event.{Event}
 use Rattle.execute.specs.declared.Event.the-variants.{Completed, Intercepted, Faulted}
 use Rattle.execute.specs.After.{eventOf, leftBy, Left}
 use Rattle.execute.proofs.Reaching.{not-both}
-use Rattle.interval.specs.declared.Word.{Word}
 use Rattle.interval.specs.declared.Word.the-variants as word
-use Rattle.interval.specs.Standing.{Stands, InStorage}
 use Rattle.ahead.specs.Completing.{isComplete, WordShut}
 use Rattle.unit.specs.Foretelling.{Comes}
 use Rattle.unit.proofs.Foretelling.{left-of}
-use Rattle.run.specs.declared.Due.{Due}
-use Rattle.run.specs.declared.Due.the-variants.{Later, At, Shut}
+use Rattle.charging.specs.declared.Due.{Due}
+use Rattle.charging.specs.declared.Due.the-variants.{Later, At, Shut}
 use Rattle.run.specs.declared.Streak.{Streak}
-use Rattle.run.specs.Running.{isCompleted, endOf, ofXa, plainAt, timedAt, machineAt, OfGuest, Ends, afterStreak, Streaks, Paced}
-use Rattle.run.specs.Ticking.{requestBehind, WordFound, dueAt, DueFound, Reaches, isShut, faultEnd, Fallen}
+use Rattle.charging.specs.Ending.{isCompleted, endOf, ofXa}
+use Rattle.run.specs.Running.{plainAt, timedAt, machineAt, OfGuest, Ends, afterStreak, Streaks, Paced}
+use Rattle.charging.specs.Ticking.{requestBehind, WordFound, DueFound, isShut, faultEnd, Fallen}
 use Rattle.run.proofs.Ticks.{guest-here}
 use Rattle.run.proofs.Steps.{never-active, off-goes, off-stops}
 use Rattle.run.proofs.Stepping.{Unit, Ticked, untouched, stepTo, leaves, step-leads, exit-steps, rise-steps, fall-steps, fault-steps}
@@ -71,20 +69,6 @@ module _ (d : List ℕ) (clock time : ℕ) (r : Ticked) (s k : List ℕ) where
   ends-there Completed exits = not-both refl exits
   ends-there (Intercepted why) exits = refl
   ends-there (Faulted f) exits = refl
-
--- what the word does, found
-pub due-found : (designation : ℕ) (g : Guest) (storage : List ℕ) (residue time : ℕ) → active g ≡ true → falls residue time ≡ true → (w : Word)
-    → ((n : Numbers) (m : Machine) → n .designation ≡ designation → m .storage ≡ storage → guestOf (m .description) ≡ g → Stands n m w)
-    → InStorage storage w → DueFound designation g storage residue time (dueAt w)
-due-found designation g storage residue time on full (word.At p) stands inside = (on, full, record { stands = stands; inside = inside })
-due-found designation g storage residue time on full (word.Shut f) stands inside = (on, full, record { stands = stands; inside = inside })
-
--- and it lies in the storage that the unit leaves
-pub reaches : (designation : ℕ) (g : Guest) (storage s : List ℕ) (residue time : ℕ) (due : Due) → DueFound designation g storage residue time due
-    → length s ≡ length storage → Reaches s due
-reaches designation g storage s residue time Later found long = tt
-reaches designation g storage s residue time (At p) (on, full, word) long = rw long (word .inside)
-reaches designation g storage s residue time (Shut f) found long = tt
 
 -- the word is shut for the unit's host too
 word-shut : (designation : ℕ) (g : Guest) (storage keys : List ℕ) (f : Failure) → WordFound designation g storage (word.Shut f)

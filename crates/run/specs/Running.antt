@@ -1,12 +1,10 @@
 -- A run with its state in hand: the record of the definition is the one that the run began with, and this state put into it.
 use Prim.Native.Nat.{ℕ, _-_, _≤_, _<_}
 use mathlib.Core.Path.{_≡_}
-use mathlib.Core.Bool.{Bool, true, false, cond}
+use mathlib.Core.Bool.{true, false, cond}
 use mathlib.Core.List.{List}
 use lib.ListN.{length}
 use Rattle.machine.specs.declared.Cpu.{Cpu}
-use Rattle.machine.specs.declared.End.{End}
-use Rattle.machine.specs.declared.End.the-variants as end
 use Rattle.machine.specs.declared.Guest.{Guest}
 use Rattle.machine.specs.declared.Numbers.{Numbers}
 use Rattle.machine.specs.declared.Psw.{Psw}
@@ -19,38 +17,12 @@ use Rattle.machine.specs.Run.{Machine, Ended as Run, run}
 use Rattle.machine.specs.Record.{Bounded}
 use Rattle.machine.proofs.Runs.{more}
 use Rattle.execute.specs.After.{Left}
-use Rattle.execute.specs.declared.Event.{Event}
-use Rattle.execute.specs.declared.Event.the-variants.{Completed, Intercepted, Faulted}
 use Rattle.pages.specs.declared.Kept.{Kept}
 use Rattle.pages.specs.Keeping.{Keeps}
 use Rattle.quick.specs.declared.Quick.{Quick}
 use Rattle.quick.specs.Stepping.{doneOf, Spares}
 use Rattle.run.specs.declared.Ended.{Ended}
 use Rattle.run.specs.declared.Streak.{Streak}
-
-unfoldable pub isCompleted : Event → Bool
-isCompleted Completed = true
-isCompleted (Intercepted r) = false
-isCompleted (Faulted f) = false
-
--- how an exit ends the run
-unfoldable pub endOf : Event → End
-endOf Completed = end.BudgetUsed
-endOf (Intercepted r) = end.Intercepted r
-endOf (Faulted f) = end.HostFault f
-
--- a state with a PSW of this architecture: the record has no other place for it than the mode
-abbrev pub ofMode : Bool → Cpu → Cpu
-ofMode system370 c = record {
-  psw = record { left = c .psw .left; right = c .psw .right; system370 = system370 };
-  timer = c .timer;
-  control = c .control;
-  general = c .general;
-}
-
--- a state as that of a 370-XA guest
-abbrev pub ofXa : Cpu → Cpu
-ofXa c = ofMode false c
 
 -- the machine of the definition that stands so, with no interval timer
 abbrev pub plainAt : List ℕ → Cpu → ℕ → List ℕ → List ℕ → Machine

@@ -16,11 +16,14 @@ use Rattle.machine.specs.Time.{clockAfter, charged}
 use Rattle.machine.specs.Units.{unit}
 use Rattle.machine.specs.Run.{goes}
 use Rattle.execute.specs.After.{leftBy}
-use Rattle.run.specs.Running.{ofXa, machineAt, OfGuest, Remains, afterStreak}
-use Rattle.run.proofs.Steps.{of-mode, charged-mode, remains-start}
+use Rattle.charging.specs.Ending.{ofXa}
+use Rattle.charging.proofs.Dues.{reaches}
+use Rattle.charging.proofs.States.{of-mode, charged-mode}
+use Rattle.run.specs.Running.{machineAt, OfGuest, Remains, afterStreak}
+use Rattle.run.proofs.Steps.{remains-start}
 use Rattle.run.proofs.Streaking.{streak-more}
 use Rattle.run.proofs.Remaining.{budget-ends, one-more, exit-ends}
-use Rattle.run.proofs.Whole.{reaches, Begun, begun-at, comes-at, goes-to, stops-to, faults-to, ended-so}
+use Rattle.run.proofs.Whole.{Begun, begun-at, comes-at, goes-to, stops-to, faults-to, ended-so}
 use Rattle.run.proofs.run.Statement.{statement}
 use Rattle.run.proofs.run.Tie as tie
 

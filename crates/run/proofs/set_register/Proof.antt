@@ -3,7 +3,7 @@
 use native.Mathlib.Omega.{arith}
 use mathlib.Core.Path.{refl, sym}
 use lib.Seq.{set-out}
-use Rattle.run.proofs.Steps.{sixteen-set}
+use Rattle.charging.proofs.States.{sixteen-set}
 use borrow.Author.Needs.{needs}
 use Rattle.run.proofs.set_register.Statement.{statement}
 use Rattle.run.proofs.set_register.Tie as tie

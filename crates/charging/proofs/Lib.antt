@@ -1,0 +1,2 @@
+pub mod Dues
+pub mod States
