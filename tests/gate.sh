@@ -1,7 +1,7 @@
 #!/bin/sh
 # The gate, which make gate runs: the sources' layout; every proof, every must-fail edit and the program, from nothing (rt ci);
-# then library and command are built and all tests are run, tests/rust and tests/tools beside the others. The last line is that
-# of rt ci, printed when all has passed; otherwise what failed is named, and the exit status is 1.
+# then library and command are built and all tests are run, tests/rust, tests/tools and tests/c beside the others. The last line is
+# that of rt ci, printed when all has passed; otherwise what failed is named, and the exit status is 1.
 set -eu
 . "$(dirname "$0")/../tools/plain.sh"
 cd "$(dirname "$0")/.."
@@ -47,14 +47,17 @@ part 'proofs and must-fail edits' sh tools/progress.sh "$LOG" "$crates" ci
 stop_if_failed
 part build make all
 stop_if_failed
-echo "gate: tests/rust and tests/tools, beside the others; what they print goes to target/rust.log and target/tools.log"
+echo "gate: tests/rust, tests/tools and tests/c, beside the others; what they print goes to target/rust.log, tools.log and c.log"
 sh tests/rust/run.sh > target/rust.log 2>&1 &
 rust=$!
 sh tests/tools/run.sh > target/tools.log 2>&1 &
 tools=$!
-for folder in tests/cases tests/c shell/tests tests/docs; do
+sh tests/c/run.sh > target/c.log 2>&1 &
+c=$!
+for folder in tests/cases shell/tests tests/docs; do
     part "$folder" sh "$folder/run.sh"
 done
+part tests/c ended "$c" target/c.log
 part tests/tools ended "$tools" target/tools.log
 part tests/rust ended "$rust" target/rust.log
 stop_if_failed

@@ -13,9 +13,9 @@ import unittest
 
 ROOT = os.path.abspath(os.path.join(os.path.dirname(os.path.abspath(__file__)), "../.."))
 LIBRARY, PROGRAM, COMMAND = "target/staticlib/libdrevokas.a", "target/bin/case", "target/bin/drevokas"
-PARTS = ["tests/cases", "tests/c", "shell/tests", "tests/docs", "tests/tools", "tests/rust"]
+PARTS = ["tests/cases", "shell/tests", "tests/docs", "tests/c", "tests/tools", "tests/rust"]
 # what these print is shown only where they fail
-BESIDE = PARTS[-2:]
+BESIDE = PARTS[-3:]
 TOOLS = "cargo cat dirname echo find gcc make mkdir python3 rm rt sed setsid sh sleep".split()
 SECONDS = 60
 # What a caller's environment may hold. MAKEFLAGS "n" alone would make every make in a script do nothing.
