@@ -1,12 +1,13 @@
 #!/bin/sh
-# Machine instructions a call of translate and check, and a unit of run, counted by callgrind: repeatable, whatever else the machine
-# does. Needs valgrind and the static library.
+# Machine instructions a call of translate, check and the page desk, and a unit of run, counted by callgrind: repeatable, whatever
+# else the machine does. Needs valgrind and the static library.
 set -eu
 . "$(dirname "$0")/../tools/plain.sh"
 cd "$(dirname "$0")"
 . ./library.sh
 build bench_translate
 build bench_run
+build bench_desk
 
 instructions() { # PROGRAM CASE FRAMES WHO COUNT
     program=$1
@@ -14,14 +15,15 @@ instructions() { # PROGRAM CASE FRAMES WHO COUNT
     valgrind --tool=callgrind --callgrind-out-file=/dev/null "$OUT/$program" "$@" 2>&1 | sed -n 's/.*refs: *//p' | tr -d ,
 }
 
-each() { # PROGRAM CASE FRAMES WHO
-    few=$(instructions "$1" "$2" "$3" "$4" 1000)
-    many=$(instructions "$1" "$2" "$3" "$4" 11000)
-    echo $(((many - few + 5000) / 10000))
+each() { # PROGRAM CASE FRAMES|PAGES WHO CALLS
+    few=$(instructions "$1" "$2" "$3" "$4" "$(($5 / 10))")
+    many=$(instructions "$1" "$2" "$3" "$4" "$(($5 / 10 + $5))")
+    echo $(((many - few + $5 / 2) / $5))
 }
 
-counted() { # PROGRAM CASE FRAMES
-    printf '%-30s %6s %10s %10s\n' "$2" "$3" "$(each "$1" "$2" "$3" drevokas)" "$(each "$1" "$2" "$3" plain)"
+counted() { # PROGRAM CASE FRAMES|PAGES [CALLS]
+    printf '%-30s %6s %10s %10s\n' "$2" "$3" "$(each "$1" "$2" "$3" drevokas "${4:-10000}")" \
+        "$(each "$1" "$2" "$3" plain "${4:-10000}")"
 }
 
 printf '%-30s %6s %10s %10s\n' case frames drevokas plain
@@ -38,4 +40,11 @@ for name in AR+BC AR+BC,DAT L+AR+ST+LA+BC L+AR+ST+LA+BC,DAT SVC SVC,DAT AR+BC,Sy
     SVC,System/370-BC SVC,System/370-EC AR+BC,System/370-BC,falls; do
     counted bench_run "$name" 8
     counted bench_run "$name" 4096
+done
+printf '%-30s %6s %10s %10s\n' case pages drevokas plain
+for name in list add remove protect; do
+    counted bench_desk "$name" 16
+    counted bench_desk "$name" 4096 100
+    counted bench_desk "$name" 524288 2
+    counted bench_desk "$name, half valid" 524288 2
 done

@@ -10,5 +10,5 @@ fi
 mkdir -p "$OUT"
 
 build() { # NAME
-    "$CC" -std=c99 -Wall -Wextra -Werror -pedantic -O2 ${FLAGS:-} -o "$OUT/$1" "$1.c" plain.c "$LIB"
+    "$CC" -std=c99 -Wall -Wextra -Werror -pedantic -O2 ${FLAGS:-} -o "$OUT/$1" "$1.c" plain.c plain_desk.c "$LIB"
 }

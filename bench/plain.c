@@ -1,44 +1,17 @@
 /* Written from document 01 and requests 1/12 and 2/12 alone, with their numbers spelt out here a second time, so that
    nothing is shared with what it is compared with. */
 #include "plain.h"
+#include "plain_words.h"
 
-enum { REFUSED = 0, INTERCEPTED = 1, HOST_FAULT = 2, EXCEPTION = 4, GOOD = 5 };
 enum { PERIOD = 40960000 };
 enum { PROTECTION = 4, ADDRESSING = 5, SEGMENT = 0x10, PAGE = 0x11, SPECIFICATION = 0x12, VALIDITY = 32 };
 enum { NO_STAGE = 0, GUEST_SEGMENT = 1, GUEST_PAGE = 2, HOST_SEGMENT = 3, HOST_PAGE = 4 };
-
-#define BIT(i) (0x80000000u >> (i))
-
-/* bits 1-19 of a word, in place: a 4 KiB block's address */
-#define BLOCK 0x7ffff000u
 
 /* What table reads need of the guest and of the host; origin and extent in bytes. */
 struct space {
     const uint8_t *storage;
     uint32_t length, designation, origin, extent, prefix;
 };
-
-static uint32_t half(const uint8_t *p)
-{
-    return (uint32_t)p[0] << 8 | p[1];
-}
-
-static uint32_t word(const uint8_t *p)
-{
-#ifdef BYTE_LOADS /* four loads, not joined into one: what a language without wider loads has to do */
-    const volatile uint8_t *v = p;
-    uint32_t a = v[0], b = v[1], c = v[2], d = v[3];
-
-    return a << 24 | b << 16 | c << 8 | d;
-#else
-    return (uint32_t)p[0] << 24 | (uint32_t)p[1] << 16 | (uint32_t)p[2] << 8 | p[3];
-#endif
-}
-
-static uint64_t answer(uint64_t kind, uint64_t number)
-{
-    return kind << 56 | number << 48;
-}
 
 /* A failure's answer, with *where set. The entry's address is 0 where it was not read; the other one is a host fault's. */
 static uint64_t fail(uint64_t kind, uint64_t number, uint64_t stage, uint32_t entry_at, uint32_t a, uint64_t *where)
@@ -327,14 +300,6 @@ struct guest {
 struct operand {
     uint32_t first, n, second, length;
 };
-
-static void put32(uint8_t *p, uint32_t v)
-{
-    p[0] = (uint8_t)(v >> 24);
-    p[1] = (uint8_t)(v >> 16);
-    p[2] = (uint8_t)(v >> 8);
-    p[3] = (uint8_t)v;
-}
 
 static uint64_t double_word(const uint8_t *p)
 {

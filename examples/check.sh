@@ -48,7 +48,8 @@ protected_page() {
     show run protected.case --after fault.case
     show_bytes fault.case 4 4092 4
     show_bytes fault.case 5 0 4
-    show make protected_page_lift.txt --from fault.case -o lifted.case
+    show desk remove fault.case 2 --after removed.case
+    show desk add removed.case 2 5 --after lifted.case
     show run lifted.case --after after.case
     show_bytes after.case 4 4092 4
     show_bytes after.case 5 0 4

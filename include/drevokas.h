@@ -1,8 +1,8 @@
 /*
  * Drevokas: interpretive execution of one 370-XA or System/370 guest CPU with pageable storage.
  *
- * Numbers and byte positions are those of document 01, "Definition of the build and its rules", and of requests 1/12 and
- * 2/12 to it. Bit 0 is the leftmost bit, and what stands in bytes is big-endian.
+ * Numbers and byte positions are those of document 01, "Definition of the build and its rules", and of requests 1/12 to
+ * 3/12 to it. Bit 0 is the leftmost bit, and what stands in bytes is big-endian.
  *
  * The record, 200 bytes with version 1, or 208 with version 2, which System/370 needs:
  *   0-1 length (200 or 208); 2 version (1 or 2); 3 intervention requests; 4 mode; 5 interception controls;
@@ -39,18 +39,21 @@ extern "C" {
 #define DREVOKAS_LONG_RECORD_VERSION 2u
 #define DREVOKAS_FRAME_BYTES 4096u
 #define DREVOKAS_MOST_FRAMES 4096u
+#define DREVOKAS_BLOCK_PAGES 16u    /* pages of a 64 KiB block: an extent has 16 times its field */
+#define DREVOKAS_MOST_PAGES 524288u /* pages of the largest extent */
 #define DREVOKAS_MOST_UNITS 65535u
 #define DREVOKAS_MOST_TIME 1048576u
 
 /* The kind of an answer: bits 0-7. */
-#define DREVOKAS_REFUSED 0u           /* number: the refusal, 1 to 8 */
+#define DREVOKAS_REFUSED 0u           /* number: the refusal, 1 to 8 or 10 to 15 */
 #define DREVOKAS_INTERCEPTED 1u       /* number: the interception code; 32 for an entry that fails */
 #define DREVOKAS_HOST_FAULT 2u        /* number: the program code of the host fault */
 #define DREVOKAS_BUDGET_USED 3u       /* number: 0; an answer of run alone */
 #define DREVOKAS_PROGRAM_EXCEPTION 4u /* number: the guest's program code */
-#define DREVOKAS_GOOD 5u              /* number: 0; check: good; translate: translated */
+#define DREVOKAS_GOOD 5u              /* number: 0; check: good; translate: translated; page desk: done */
 
-/* Refusals, tested in this order, each where the operation has that input. */
+/* Refusals, tested in this order, each where the operation has that input. Those from 10 on are the page desk's alone, and
+   come after an entry that fails. */
 #define DREVOKAS_REFUSAL_LENGTH 1u   /* record and its length field are not both 200 or both 208 */
 #define DREVOKAS_REFUSAL_VERSION 2u  /* version is not 1, or not 2 in a record of 208 bytes */
 #define DREVOKAS_REFUSAL_STORAGE 3u  /* storage is empty, over 4,096 frames or not whole frames */
@@ -59,6 +62,12 @@ extern "C" {
 #define DREVOKAS_REFUSAL_TIME 6u     /* time per unit over 1,048,576; an answer of run alone */
 #define DREVOKAS_REFUSAL_RESERVED 7u /* one of bytes 66-71, or of 201-203, is not zero; or a residue out of range */
 #define DREVOKAS_REFUSAL_ACCESS 8u   /* access kind is not 0, 1 or 2 */
+#define DREVOKAS_REFUSAL_PAGE 10u    /* page outside the extent, or its entry out of reach */
+#define DREVOKAS_REFUSAL_VALID 11u   /* page already valid; an answer of add alone */
+#define DREVOKAS_REFUSAL_INVALID 12u /* page not valid; an answer of remove and protect */
+#define DREVOKAS_REFUSAL_FRAME 13u   /* frame outside the storage; an answer of add alone */
+#define DREVOKAS_REFUSAL_ENTRY 14u   /* an entry would lie in a guest frame, or the page's entry serves twice */
+#define DREVOKAS_REFUSAL_WORDS 15u   /* workspace shorter than the extent's pages; an answer of list alone */
 
 /* Interception codes. */
 #define DREVOKAS_CODE_INSTRUCTION 4u       /* the controls ask for it, or it is mandatory */
@@ -83,6 +92,9 @@ extern "C" {
 #define DREVOKAS_STORE 1u
 #define DREVOKAS_INSTRUCTION_FETCH 2u
 
+/* What the list of pages has in place of a frame number where the page is not valid. */
+#define DREVOKAS_NO_FRAME 0xffffffffu
+
 /* The stage of an answer: bits 16-23. The table in which a walk failed, in failures of translate and in a run's host faults;
    drevokas_translate has a list of them. */
 #define DREVOKAS_STAGE_NONE 0u
@@ -92,9 +104,10 @@ extern "C" {
 #define DREVOKAS_STAGE_HOST_PAGE 4u
 
 /* An answer holds, from the left: kind in bits 0-7, number in bits 8-15, stage in bits 16-23, zeros, units completed in
-   bits 32-63. Beside it, *where holds an address in its low 32 bits, and in its high 32 bits that of the entry of the table
-   that the stage names: of the entry's first byte, guest real (before prefixing) for the guest's tables, host absolute for
-   the host's. That is zero where the entry was not read, and where it was read and stands at zero. */
+   bits 32-63, where drevokas_list_pages has the number of valid pages. Beside an answer of translate and run, *where holds an
+   address in its low 32 bits, and in its high 32 bits that of the entry of the table that the stage names: of the entry's
+   first byte, guest real (before prefixing) for the guest's tables, host absolute for the host's. That is zero where the entry
+   was not read, and where it was read and stands at zero. */
 
 #ifdef __cplusplus
 #define DREVOKAS_WORD(number) static_cast<uint32_t>(number)
@@ -112,14 +125,22 @@ static inline uint32_t drevokas_number(uint64_t answer)
     return DREVOKAS_WORD(answer >> 48 & 0xffu);
 }
 
-/* The table in which a walk failed; none in a refusal, in the answers of check, and wherever no walk failed. */
+/* The table in which a walk failed; none in a refusal, in the answers of check and of the page desk, and wherever
+   no walk failed. */
 static inline uint32_t drevokas_stage(uint64_t answer)
 {
     return DREVOKAS_WORD(answer >> 40 & 0xffu);
 }
 
-/* The units completed, of run; zero in the answers of check and translate and in a refusal. */
+/* The units completed, of run; zero in the answers of check and translate, in those of the page desk but the list, and in a
+   refusal. */
 static inline uint32_t drevokas_units(uint64_t answer)
+{
+    return DREVOKAS_WORD(answer & 0xffffffffu);
+}
+
+/* The number of valid pages, of drevokas_list_pages; zero in a refusal and for an entry that fails. */
+static inline uint32_t drevokas_valid_pages(uint64_t answer)
 {
     return DREVOKAS_WORD(answer & 0xffffffffu);
 }
@@ -216,6 +237,69 @@ uint64_t drevokas_translate(const uint8_t *record, size_t record_len, const uint
 uint64_t drevokas_run(uint8_t *record, size_t record_len, uint8_t *storage, size_t storage_len, uint8_t *keys,
                       size_t keys_len, uint32_t designation, uint64_t clock, uint32_t time, uint32_t budget,
                       uint64_t *where);
+
+/*
+ * The page desk of request 3/12: adds, removes or protects one page of a guest in the host's tables, and lists the pages.
+ *
+ * A page is one of 4,096 bytes of guest absolute storage, counted from 0 on at the start of the extent; there are 16 in a
+ * 64 KiB block. Prefix, PSW and keys play no part, but for entry and refusal 4. A page's entry is in reach when the lengths
+ * of the host's tables, the storage, and a segment entry that is valid and well formed allow it. A page is valid when its
+ * entry is in reach and well formed, with bit 21 zero, also where its frame is outside the storage. A guest frame is a frame
+ * in storage that a valid page names. The entries that describe the extent are, where in reach, those of its pages and of the
+ * segments that it touches, invalid ones too.
+ *
+ * Refusals and code 32 change nothing. The order is 1, 2, 3, 4, 7, code 32 if entry would fail, then:
+ *
+ *   10   page outside the extent, or its entry out of reach
+ *   11   add: page already valid
+ *   12   remove and protect: page not valid
+ *   13   add: frame number at or above the number of frames
+ *   14   add, remove and protect: after the call an entry that describes the extent would lie in a guest frame, or the page's
+ *        entry is also that of another page of the extent, or that of a segment that the extent touches
+ *   15   list: fewer words than the extent has pages
+ *
+ * Add, remove and protect answer:
+ *
+ *   kind                   number                                                 *valid
+ *   DREVOKAS_REFUSED       1, 2, 3, 4, 7, 10, 14; add 11, 13; the others 12       not touched
+ *   DREVOKAS_INTERCEPTED   32: entry would fail                                   not touched
+ *   DREVOKAS_GOOD          0: done                                                add: one more; remove: one less
+ *
+ * *valid is the number of the extent's valid pages, modulo 2^32, which the caller keeps beside the designation; the list gives
+ * one to start from. It is not compared with the tables. If it was true before a call, it is true after it; and after a run
+ * that began with no entry that describes the extent in a guest frame. Both for one storage length, designation, origin and
+ * extent.
+ *
+ * They write nothing but the four bytes of the page's entry and *valid, which must be an aligned uint32_t apart from the
+ * record, the storage and the keys.
+ */
+
+/* Adds a page that is not valid: its entry becomes `frame` times 4,096, all other bits zero. Two pages may have one frame. */
+uint64_t drevokas_add_page(const uint8_t *record, size_t record_len, uint8_t *storage, size_t storage_len,
+                           const uint8_t *keys, size_t keys_len, uint32_t designation, uint32_t page, uint32_t frame,
+                           uint32_t *valid);
+
+/* Removes a valid page: bit 21 of its entry becomes one, the others stay. */
+uint64_t drevokas_remove_page(const uint8_t *record, size_t record_len, uint8_t *storage, size_t storage_len,
+                              const uint8_t *keys, size_t keys_len, uint32_t designation, uint32_t page, uint32_t *valid);
+
+/* Protects a valid page from stores: bit 22 of its entry becomes one, if it is not already, the others stay. */
+uint64_t drevokas_protect_page(const uint8_t *record, size_t record_len, uint8_t *storage, size_t storage_len,
+                               const uint8_t *keys, size_t keys_len, uint32_t designation, uint32_t page, uint32_t *valid);
+
+/*
+ * Lists the pages of the extent into a workspace of `count` words: for each page in order the number of its frame, bits 1-19
+ * of its entry, or DREVOKAS_NO_FRAME where the page is not valid. Answers:
+ *
+ *   kind                   number                    drevokas_valid_pages       words
+ *   DREVOKAS_REFUSED       1, 2, 3, 4, 7 or 15       0                          not touched
+ *   DREVOKAS_INTERCEPTED   32: entry would fail      0                          not touched
+ *   DREVOKAS_GOOD          0: done                   number of valid pages      one for each page; others not touched
+ *
+ * Writes nothing but the words, which must be aligned and apart from the record, the storage and the keys.
+ */
+uint64_t drevokas_list_pages(const uint8_t *record, size_t record_len, const uint8_t *storage, size_t storage_len,
+                             const uint8_t *keys, size_t keys_len, uint32_t designation, uint32_t *frames, size_t count);
 
 #ifdef __cplusplus
 }

@@ -8,13 +8,13 @@
 
 #define MOST_UNITS 4294967295u
 
-static int bad_usage(const struct usage *u)
+int bad_usage(const struct usage *u)
 {
     fprintf(stderr, "usage: drevokas %s\n", u->synopsis);
     return STATUS_BAD;
 }
 
-static int print_help(const struct usage *u)
+int print_help(const struct usage *u)
 {
     printf("usage: drevokas %s\n\n%s%s", u->synopsis, u->help, u->more != NULL ? u->more : "");
     return finished(STATUS_GOOD);
@@ -61,7 +61,7 @@ static int is_option(const char *argument)
     return argument[0] == '-' && argument[1] != '\0';
 }
 
-static int wants_help(int argc, char **argv)
+int wants_help(int argc, char **argv)
 {
     int i;
 
@@ -146,6 +146,27 @@ int hex_number(const char *text, uint64_t most, uint64_t *value)
         }
     }
     return number(text, end, 16, most, value);
+}
+
+/* Whether the digits might be meant in binary, by a prefix that elsewhere means it. */
+static int may_be_binary(const char *text)
+{
+    return text[0] == '0' && (text[1] == 'b' || text[1] == 'B') && text[2] != '\0' && text[2 + strspn(text + 2, "01")] == '\0';
+}
+
+int address_operand(const char *text, uint32_t *address)
+{
+    uint64_t n = 0;
+
+    if (hex_number(text, 0xffffffffu, &n) != 0)
+        complain("address %s: must be a hexadecimal number of 32 bits: digits, 0x and digits, or X'digits'", text);
+    else if (may_be_binary(text))
+        complain("address %s: is it hexadecimal, 0x%s, or binary? Write 0x and hexadecimal digits", text, text);
+    else {
+        *address = (uint32_t)n;
+        return GO_ON;
+    }
+    return STATUS_BAD;
 }
 
 int units_option(const char *option, const char *value, uint32_t least, uint32_t *units)

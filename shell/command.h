@@ -12,6 +12,7 @@ int command_translate(int argc, char **argv);
 int command_explain(int argc, char **argv);
 int command_make(int argc, char **argv);
 int command_trace(int argc, char **argv);
+int command_desk(int argc, char **argv);
 
 /* "drevokas: " and the message, with a newline, on standard error. */
 void complain(const char *format, ...) __attribute__((format(printf, 1, 2)));

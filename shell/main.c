@@ -1,4 +1,4 @@
-/* drevokas: case files run, checked, translated, explained, made and traced. */
+/* drevokas: case files run, checked, translated, explained, made and traced, and the pages of their guests. */
 #include <fcntl.h>
 #include <signal.h>
 #include <stdio.h>
@@ -18,6 +18,7 @@ static const struct {
     {"explain", "show a case file to a person", command_explain},
     {"make", "build a case file from its text form", command_make},
     {"trace", "run unit by unit, one line for each", command_trace},
+    {"desk", "list the guest's pages; add, remove or protect one", command_desk},
 };
 
 #define COMMANDS (sizeof commands / sizeof *commands)

@@ -51,14 +51,19 @@ static void add_bits(uint32_t word, char *text)
             add(text, " %u%s", i, ones(word) > 2 ? "," : ones(word) == 2 ? " and" : "");
 }
 
+void add_malformed(uint32_t bits, char text[SENTENCE])
+{
+    add(text, "malformed, ");
+    add_bits(bits, text);
+    add(text, " must be zero");
+}
+
 /* Why an entry that was read does not lead on. */
 static void add_fault(const struct last_entry *e, unsigned code, char *text)
 {
     switch (code) {
     case DREVOKAS_TRANSLATION_SPECIFICATION:
-        add(text, "malformed, ");
-        add_bits(e->word & (e->is_page ? PAGE_ZERO : SEGMENT_ZERO), text);
-        add(text, " must be zero");
+        add_malformed(e->word & (e->is_page ? PAGE_ZERO : SEGMENT_ZERO), text);
         break;
     case DREVOKAS_ADDRESSING:
         add(text, "its frame is beyond the storage");
@@ -87,6 +92,29 @@ static void add_hindrance(const struct tables *t, const struct last_entry *e, ch
 
 /* ---- the entry ---- */
 
+/* Where and why a walk that ended with this code came to its end at an entry. */
+static void add_reason(const struct tables *t, const struct last_entry *e, unsigned code, char *text)
+{
+    if (e->is_read) {
+        add_address(t->is_guest, e->at, text);
+        add(text, ": ");
+        add_fault(e, code, text);
+    } else {
+        add(text, " not read: ");
+        add_hindrance(t, e, text);
+    }
+}
+
+void add_host_entry(const struct case_file *c, uint32_t host, char text[SENTENCE])
+{
+    struct tables t = tables_of_host(c);
+    struct host_page p = walk_tables(&t, host);
+    struct last_entry e = last_entry(&t, &p, host);
+
+    add(text, "%s entry", stage_words(stage_of(&t, &e)));
+    add_reason(&t, &e, p.code, text);
+}
+
 /* The walk of the case file's own tables, if it ends as the library says; else stage and address alone. */
 static void add_end(const struct tables *t, uint32_t address, uint64_t answer, uint64_t where, char *text)
 {
@@ -95,15 +123,10 @@ static void add_end(const struct tables *t, uint32_t address, uint64_t answer, u
     uint32_t at = drevokas_entry(where);
     int agrees = p.code == drevokas_number(answer) && stage_of(t, &e) == drevokas_stage(answer) && (e.is_read ? e.at : 0) == at;
 
-    if (at != 0 || (agrees && e.is_read))
+    if (agrees)
+        add_reason(t, &e, p.code, text);
+    else if (at != 0)
         add_address(t->is_guest, at, text);
-    if (agrees && e.is_read) {
-        add(text, ": ");
-        add_fault(&e, p.code, text);
-    } else if (agrees) {
-        add(text, " not read: ");
-        add_hindrance(t, &e, text);
-    }
 }
 
 /* The guest's own entry, if it is that which the host could not give at this host virtual address. */

@@ -43,23 +43,6 @@ static int access_kind(const char *name, uint32_t *access)
     return GO_ON;
 }
 
-/* Whether the digits might be meant in binary, by a prefix that elsewhere means it. */
-static int may_be_binary(const char *text)
-{
-    return text[0] == '0' && (text[1] == 'b' || text[1] == 'B') && text[2] != '\0' && text[2 + strspn(text + 2, "01")] == '\0';
-}
-
-static int address_of(const char *text, uint64_t *address)
-{
-    if (hex_number(text, 0xffffffffu, address) != 0)
-        complain("address %s: must be a hexadecimal number of 32 bits: digits, 0x and digits, or X'digits'", text);
-    else if (may_be_binary(text))
-        complain("address %s: is it hexadecimal, 0x%s, or binary? Write 0x and hexadecimal digits", text, text);
-    else
-        return GO_ON;
-    return STATUS_BAD;
-}
-
 static int print_answer(const struct case_file *c, uint64_t answer, uint64_t where)
 {
     unsigned number = (unsigned)drevokas_number(answer);
@@ -117,14 +100,13 @@ int command_translate(int argc, char **argv)
 {
     struct arguments a;
     struct case_file c;
-    uint32_t access = 0;
-    uint64_t address = 0;
+    uint32_t access = 0, address = 0;
     int status = sort_arguments(argc, argv, &usage, &a);
 
     if (status == GO_ON)
         status = access_kind(a.values[0], &access);
     if (status == GO_ON)
-        status = address_of(a.operands[1], &address);
+        status = address_operand(a.operands[1], &address);
     if (status != GO_ON)
         return status;
     status = load(a.operands[0], &c);
@@ -132,5 +114,5 @@ int command_translate(int argc, char **argv)
         printf("R 9: case file malformed\n");
     if (status != GO_ON)
         return finished(status);
-    return translate(shown_name(a.operands[0]), &c, (uint32_t)address, access);
+    return translate(shown_name(a.operands[0]), &c, address, access);
 }

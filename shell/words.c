@@ -44,6 +44,21 @@ static const struct word interception_codes[] = {
     {44, "operation exception"},
 };
 
+/* Refusals of which more is not known here. A case file has whole frames, a key for each, and a budget of 16 bits. */
+static const struct word refusals[] = {
+    {3, "the storage is empty, over 4096 frames or not whole frames"},
+    {4, "the number of keys differs from the number of frames"},
+    {5, "the budget is over 65535 units"},
+    {8, "the access kind is not 0, 1 or 2"},
+    {9, "case file malformed"},
+    {10, "the page is outside the extent, or its entry is out of reach"},
+    {11, "the page is already valid"},
+    {12, "the page is not valid"},
+    {13, "the frame is outside the storage"},
+    {14, "after it an entry that describes the extent would lie in a guest frame, or the page's entry serves twice"},
+    {15, "the workspace is shorter than the extent's pages"},
+};
+
 static const char *look_up(const struct word *words, size_t count, unsigned number)
 {
     size_t i;
@@ -125,11 +140,8 @@ void refusal_sentence(unsigned number, const struct case_file *c, char *text, si
     case 7:
         reserved_sentence(c->record, text, room);
         break;
-    case 9:
-        snprintf(text, room, "case file malformed");
-        break;
-    default:    /* a case file has whole frames, a key for each, and a budget of 16 bits */
-        snprintf(text, room, "refused by the library");
+    default:
+        snprintf(text, room, "%s", look_up(refusals, sizeof refusals / sizeof *refusals, number));
         break;
     }
 }

@@ -1,6 +1,6 @@
 #!/usr/bin/env python3
 """fuzz.py COMMAND FOLDER COUNT [SEED]: COUNT damaged texts through `make`, half of them with `--from` and a damaged case file;
-COUNT damaged case files through `explain`, `run` and `translate`.
+COUNT damaged case files through `explain`, `run`, `translate` and `desk`.
 
 Each call must end by itself within a second of CPU time, by no signal, with exit status 0, 1 or 2, and with a message on
 standard error, or of translate with its line, if that is not 0. A file is left by make only with status 0, and is then a case
@@ -225,7 +225,10 @@ def fuzz_case(cases, i):
         f.write(damage_case(r.choice(cases)))
     before = failures
     address = f"{r.randrange(2**32) >> r.choice([0, 8, 16, 20]):x}"
-    for arguments in (["explain", name], ["run", name], ["translate", name, address, "--access", r.choice(ACCESSES)]):
+    page, frame, out = r.choice(["0", "1", "2", "guest:" + address]), str(r.randrange(9)), os.path.join(FOLDER, "desk.out")
+    for arguments in (["explain", name], ["run", name], ["translate", name, address, "--access", r.choice(ACCESSES)],
+                      ["desk", "list", name], ["desk", "add", name, page, frame, "--after", out],
+                      ["desk", r.choice(["remove", "protect"]), name, page, "--after", out]):
         if call(name, *arguments) == 2:
             fail(f"{arguments[0]} calls a damaged file unreadable", name)
     if failures == before:

@@ -28,7 +28,8 @@ if command -v valgrind > /dev/null; then
     printf "host tables at frame 1\nguest tables at real X'3000'\nmap virtual X'6000' to real 0\n" > "$OUT/tables.txt"
     checked="timeout 60 valgrind -q --error-exitcode=9 --leak-check=full"
     $checked "$DREVOKAS" make examples/page_exception.txt -o "$OUT/page.case"
-    $checked "$DREVOKAS" make examples/protected_page_lift.txt --from "$OUT/page.case" -o "$OUT/new.case"
+    printf "map guest X'2000' to frame 5\n" > "$OUT/map.txt"
+    $checked "$DREVOKAS" make "$OUT/map.txt" --from "$OUT/page.case" -o "$OUT/new.case"
     $checked "$DREVOKAS" make "$OUT/tables.txt" --from "$OUT/page.case" -o "$OUT/new.case"
     status=0
     $checked "$DREVOKAS" make "$OUT/bad.txt" -o "$OUT/bad.case" 2> "$OUT/bad.err" || status=$?

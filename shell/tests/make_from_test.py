@@ -1,6 +1,6 @@
 #!/usr/bin/env python3
 """make_from_test.py COMMAND: tests of the page maps of `drevokas make --from`, and of the entry addresses that explain shows.
-Tables are walked here by a model of document 01's rules. Prints each failure and a count; fails if there is one."""
+Tables are walked by a model of document 01's rules. Prints each failure and a count; fails if there is one."""
 import os
 import random
 import re
@@ -9,63 +9,11 @@ import sys
 import tempfile
 
 sys.dont_write_bytecode = True
-from tools import FRAME, Case, call, expect, report  # noqa: E402
+from tools import FRAME, INVALID, Tables, call, expect, report  # noqa: E402
 
 EXAMPLES = os.path.join(os.path.dirname(os.path.abspath(__file__)), "../../examples")
-INVALID, PROTECTED, MALFORMED = 0x400, 0x200, 0x80000900
+PROTECTED = 0x200
 r = random.Random(7095)
-
-
-class Tables(Case):
-    """A case file whose tables can be walked."""
-
-    def field(self, at, size):
-        return int.from_bytes(self.record[at:at + size], "big")
-
-    def word(self, at):
-        return struct.unpack(">I", self.storage[at:at + 4])[0]
-
-    def host_place(self, at):
-        return at if at < len(self.storage) else None
-
-    def real_place(self, at):
-        """A guest real address in storage; None if it is beyond the extent, or if the host has no such page."""
-        prefix, origin, extent = self.field(8, 4) & 0x7ffff000, self.field(12, 2), self.field(14, 2)
-        block = at & ~0xfff
-        absolute = at | prefix if block == 0 else at & 0xfff if block == prefix else at
-        if at >= extent * 65536:
-            return None
-        place = self.entry_at(origin * 16 + absolute // FRAME)
-        entry = INVALID if place is None else self.word(place)
-        if entry & (INVALID | MALFORMED) or (entry & 0x7ffff000) >= len(self.storage):
-            return None
-        return (entry & 0x7ffff000) + at % FRAME
-
-    def place_of(self, virtual):
-        return self.real_place if virtual else self.host_place
-
-    def segment(self, number, virtual):
-        """A segment entry; an invalid one if it is out of reach or malformed."""
-        designation = self.field(76, 4) if virtual else self.designation
-        if number >> 4 > designation & 0x7f:
-            return 0x20
-        place = self.place_of(virtual)((designation & 0x7ffff000) + 4 * number)
-        return 0x20 if place is None or self.word(place) & 0x80000000 else self.word(place)
-
-    def entry_at(self, page, virtual=False):
-        """Where a page's entry stands in storage, by the host's tables or by the guest's; None if it is out of reach."""
-        segment = self.segment(page >> 8, virtual)
-        if segment & 0x20 or page >> 4 & 15 > segment & 15:
-            return None
-        return self.place_of(virtual)((segment & 0x7fffffc0) + 4 * (page & 255))
-
-    def entries(self, virtual=False):
-        """The entries in reach in the first 32 segments, by their pages."""
-        segments = {number: self.segment(number, virtual) for number in range(32)}
-        pages = [number << 8 | page for number, segment in segments.items() if not segment & 0x20
-                 for page in range(((segment & 15) + 1) * 16)]
-        places = {page: self.entry_at(page, virtual) for page in pages}
-        return {page: self.word(place) for page, place in places.items() if place is not None}
 
 
 def changed(old, new):

@@ -21,6 +21,11 @@ static const struct {
     {command_translate, {"translate", "FILE", "1ffe", "--access=store"}},
     {command_explain, {"explain", "FILE", "--pages", "20"}},
     {command_trace, {"trace", "FILE", "--budget", "30", "--after", "OUT", "--checkpoint=7"}},
+    {command_desk, {"desk", "list", "FILE"}},
+    {command_desk, {"desk", "add", "FILE", "2", "0", "--after", "OUT"}},
+    {command_desk, {"desk", "add", "FILE", "guest:1000", "0x7", "--after", "OUT"}},
+    {command_desk, {"desk", "remove", "FILE", "0", "--after", "OUT"}},
+    {command_desk, {"desk", "protect", "FILE", "host:1000", "--after", "OUT"}},
 };
 
 static char *argument(const char *text, char *file, char *out)

@@ -19,7 +19,7 @@ import termios
 import time
 
 sys.dont_write_bytecode = True
-from tools import COMMAND, expect, report  # noqa: E402
+from tools import COMMAND, expect, read, report, write  # noqa: E402
 
 FAULTS, FOLDER = (os.path.abspath(name) for name in sys.argv[2:4])
 FILES = os.path.join(os.path.dirname(os.path.abspath(__file__)), "../../tests/cases/files")
@@ -100,17 +100,6 @@ def running(*arguments, **options):
     p = start(*arguments, **options)
     poll(lambda: p.poll() is not None or is_caught(p, signal.SIGTERM), f"{arguments} catches signals")
     return p
-
-
-def read(name):
-    with open(name, "rb") as f:
-        return f.read()
-
-
-def write(name, data):
-    with open(name, "wb") as f:
-        f.write(data)
-    return name
 
 
 def units_of(data):

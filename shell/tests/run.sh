@@ -1,9 +1,9 @@
 #!/bin/sh
 # Builds the command and tests it: every sub-command, good and bad input, messages and exit status; all kept case files; runs
 # that are cut and resumed; traces; files that cannot be written; signals; the table entries that are named where a translation
-# fails; the shell's own statement of the rules against the library; then, under valgrind if it is there, every sub-command that
-# reads a case file on every kept one; and damaged files. Prints each failure, and a count. Fails if anything fails; a command
-# that does not end by itself is ended, and has failed.
+# fails; the page desk; the shell's own statement of the rules against the library; then, under valgrind if it is there, every
+# sub-command that reads a case file on every kept one; and damaged files. Prints each failure, and a count. Fails if anything
+# fails; a command that does not end by itself is ended, and has failed.
 set -eu
 . "$(dirname "$0")/../../tools/plain.sh"
 cd "$(dirname "$0")/../.."
@@ -92,7 +92,7 @@ test_usage() {
     says 2 '' 'no sub-command'
     says 2 '' 'no sub-command fly' fly
     says 2 '' 'no sub-command -x' -x
-    for sub in run check translate explain make trace; do
+    for sub in run check translate explain make trace desk; do
         call "$sub" --help
         [ "$status" -eq 0 ] && grep -q "^usage: drevokas $sub " "$OUT/out" && [ ! -s "$OUT/err" ] || fail "$sub --help"
         within_100 "$sub --help"
@@ -198,6 +198,7 @@ test_damaged() {
         says 1 'R 9' 'not a case file: the' run "$OUT/cut.in"
         says 1 'R 9' 'not a case file: the' trace "$OUT/cut.in"
         says 1 '' 'not a case file: the' explain "$OUT/cut.in"
+        says 1 'R 9' 'not a case file: the' desk list "$OUT/cut.in"
     done
     { cat "$FILES/ar.in"; echo; } > "$OUT/long.in"
     says 1 'R 9' 'the length in bytes 0-3 is not the number of bytes that follow it' run "$OUT/long.in"
@@ -326,10 +327,11 @@ test_make() {
         says 0 '' '' make "$text" -o "$OUT/example.in"
         says 0 good '' check "$OUT/example.in"
     done
-    says 0 '' '' make examples/protected_page_lift.txt --from "$OUT/example.in" -o "$OUT/lifted.in"
+    printf "# the protection is lifted\nmap guest X'2000' to frame 5\n" > "$OUT/lift.txt"
+    says 0 '' '' make "$OUT/lift.txt" --from "$OUT/example.in" -o "$OUT/lifted.in"
     call run "$OUT/lifted.in"
     [ "$status" -eq 0 ] && [ "$(cat "$OUT/out")" = 'I 28 3' ] || fail "the lifted page: $(cat "$OUT/out")"
-    says 2 '' 'lift.txt:4: the host' make examples/protected_page_lift.txt -o "$OUT/wrong.in"
+    says 2 '' 'lift.txt:2: the host' make "$OUT/lift.txt" -o "$OUT/wrong.in"
     : > "$OUT/empty.txt"
     says 2 '' 'empty.txt: the text says nothing' make "$OUT/empty.txt" -o "$OUT/wrong.in"
     says 2 '' 'it changes nothing' make "$OUT/empty.txt" --from "$OUT/example.in" -o "$OUT/wrong.in"
@@ -437,6 +439,10 @@ test_system_370
 test_programs
 timeout 120 python3 shell/tests/words_test.py "$ROOT/target/bin/drevokas" || fail shell/tests/words_test.py
 timeout 120 python3 shell/tests/stage_test.py "$ROOT/target/bin/drevokas" || fail shell/tests/stage_test.py
+timeout 300 python3 shell/tests/desk_test.py target/bin/drevokas "$OUT/faults.so" "$OUT/desk" > "$OUT/desk.log" 2>&1 &
+desk=$!
 timeout 300 sh shell/tests/fuzz.sh || fail shell/tests/fuzz.sh
+wait "$desk" || fail shell/tests/desk_test.py
+cat "$OUT/desk.log"
 echo "$tests shell tests, $failed failed"
 [ "$failed" -eq 0 ]

@@ -1,4 +1,4 @@
-/* The rules of document 01 that the shell states itself, for its words and its view of the pages, against the library: on the
+/* The rules of document 01 that the shell states itself, for its words and its views of the pages, against the library: on the
    case files named and on pseudo-random ones.
    Usage: test_rules FILE... */
 #include <stdio.h>
@@ -6,6 +6,7 @@
 
 #include "../../include/drevokas.h"
 #include "../case_file.h"
+#include "../desk_words.h"
 #include "../interval.h"
 #include "../psw.h"
 #include "../stage.h"
@@ -18,6 +19,8 @@
 #define PAGES 64            /* of each that are compared */
 #define FEW 500             /* each thing that a walk can find is to be found so often */
 #define AT_ZERO 50          /* and a table entry at address 0 so often */
+#define DESKS 16000         /* pseudo-random hosts whose pages are changed, */
+#define CHANGES 8           /* and changes of each */
 #define RECORDS 200000
 #define PSWS 20000
 
@@ -348,6 +351,131 @@ static void test_no_reason(void)
     expect_no_reason(&c, DREVOKAS_STAGE_GUEST_SEGMENT, 0, "guest segment entry");
 }
 
+/* ---- the page desk ---- */
+
+static unsigned long seen_answers[3][16];   /* by action and refusal; 0 is done */
+static unsigned long seen_clashes[3];       /* refusal 14: an entry in a guest frame; of a second page; of a segment */
+
+static uint64_t change_page(struct case_file *c, const struct desk_change *d, uint32_t *valid)
+{
+    unsigned bytes = record_bytes(c->record);
+    size_t length = (size_t)c->frames * FRAME_BYTES;
+
+    if (d->action == DESK_ADD)
+        return drevokas_add_page(c->record, bytes, c->storage, length, c->keys, c->frames, c->designation, d->page, d->frame,
+                                 valid);
+    if (d->action == DESK_REMOVE)
+        return drevokas_remove_page(c->record, bytes, c->storage, length, c->keys, c->frames, c->designation, d->page, valid);
+    return drevokas_protect_page(c->record, bytes, c->storage, length, c->keys, c->frames, c->designation, d->page, valid);
+}
+
+/* The refusal of a change by what the shell states; 0 if there is none. Entry must be good. */
+static unsigned desk_number(const struct extent *e, const struct desk_change *d, char text[SENTENCE])
+{
+    struct host_page p;
+
+    if (d->page >= e->pages)
+        return DREVOKAS_REFUSAL_PAGE;
+    p = page_of_extent(e, d->page);
+    if (!p.page_read)
+        return DREVOKAS_REFUSAL_PAGE;
+    if (p.valid == (d->action == DESK_ADD))
+        return d->action == DESK_ADD ? DREVOKAS_REFUSAL_VALID : DREVOKAS_REFUSAL_INVALID;
+    if (d->action == DESK_ADD && d->frame >= e->c->frames)
+        return DREVOKAS_REFUSAL_FRAME;
+    return add_clash(e, d, text) ? DREVOKAS_REFUSAL_ENTRY : 0;
+}
+
+static void note_clash(const char *text)
+{
+    seen_clashes[0] += strstr(text, " would be page ") != NULL;
+    seen_clashes[1] += strstr(text, " is also that of page ") != NULL;
+    seen_clashes[2] += strstr(text, " is also the host segment entry of page ") != NULL;
+}
+
+/* The library refuses what the shell says it does, and gives the sentence; or it changes the entry that the shell names, and
+   nothing else. */
+static void compare_change(const struct case_file *before, const struct desk_change *d)
+{
+    static struct case_file c;
+    char text[SENTENCE] = "", sentence[SENTENCE], general[SENTENCE];
+    struct extent e = extent_of(before);
+    unsigned number = desk_number(&e, d, text);
+    uint32_t valid = 7, place;
+    uint64_t answer;
+
+    c = *before;
+    answer = change_page(&c, d, &valid);
+    expect(drevokas_number(answer) == number, "the refusal of a change", text, d->page);
+    expect(drevokas_kind(answer) == (number == 0 ? DREVOKAS_GOOD : DREVOKAS_REFUSED), "a change", text, d->page);
+    seen_answers[d->action][number & 15]++;
+    desk_refusal(number, before, d, sentence);
+    refusal_sentence(number, before, general, sizeof general);
+    note_clash(text);
+    if (number != 0)
+        expect(strcmp(sentence, general) != 0, "a refusal without a reason", sentence, d->page);
+    if (number == 0) {
+        place = page_of_extent(&e, d->page).page_place;
+        memcpy(c.storage + place, before->storage + place, ENTRY_BYTES);
+    }
+    expect(memcmp(c.storage, before->storage, sizeof c.storage) == 0, "another word is changed", "desk", d->page);
+}
+
+/* Tables in few frames, often on one another or in the guest's own frames, for an extent of a few blocks. */
+static void random_desk(struct case_file *c)
+{
+    uint32_t i, table;
+
+    random_host(c);
+    c->designation = random_word() % c->frames * FRAME_BYTES;
+    set(c, "origin", random_word() % 3 ? 0 : 15);
+    set(c, "extent", random_word() % 2 ? 1 + random_word() % 2 : 1 + random_word() % 40);
+    if (random_word() % 2)
+        return;
+    for (i = 0; i < 3; i++) {       /* tables apart from the guest, in one frame */
+        table = c->designation + 0x40 + (random_word() % 4 ? i : random_word() % 3) * 0x40;
+        put_number(c->storage + c->designation + ENTRY_BYTES * i, ENTRY_BYTES, random_word() % 4 ? table : c->designation);
+    }
+    for (i = 0x40; i < 0x100; i += ENTRY_BYTES)
+        put_number(c->storage + c->designation + i, ENTRY_BYTES,
+                   random_word() % 2 ? PAGE_INVALID : random_word() % 64 ? FRAME_BYTES ^ c->designation : random_entry());
+}
+
+/* Every refusal that an action has, and every part of the last, was found often enough. */
+static void expect_all_answers(void)
+{
+    static const unsigned numbers[] = {0, 10, 11, 12, 13, 14};
+    unsigned action, i;
+
+    for (i = 0; i < 3 * sizeof numbers / sizeof *numbers; i++) {
+        int of_add = numbers[i / 3] == 11 || numbers[i / 3] == 13;
+
+        action = i % 3;
+        if (of_add ? action == DESK_ADD : numbers[i / 3] != 12 || action != DESK_ADD)
+            expect(seen_answers[action][numbers[i / 3]] >= FEW, "too few of this answer", "desk", numbers[i / 3]);
+    }
+    for (i = 0; i < 3; i++)
+        expect(seen_clashes[i] >= FEW, "too few refusals of this part", "desk", i);
+}
+
+static void compare_changes(void)
+{
+    static struct case_file c;
+    struct desk_change d;
+    unsigned i, j;
+
+    for (i = 0; i < DESKS; i++) {
+        random_desk(&c);
+        for (j = 0; j < CHANGES; j++) {
+            d.action = (enum desk_action)(random_word() % 3);
+            d.page = random_word() % 8 ? random_word() % 16 : random_word() % (extent_of(&c).pages + 8);
+            d.frame = random_word() % (c.frames + 1);
+            compare_change(&c, &d);
+        }
+    }
+    expect_all_answers();
+}
+
 /* ---- entry ---- */
 
 static void random_record(struct case_file *c, int larger)
@@ -547,6 +675,7 @@ int main(int argc, char **argv)
     compare_hosts();
     compare_entries();
     test_no_reason();
+    compare_changes();
     compare_records(0);
     compare_records(1);
     compare_psws(0);

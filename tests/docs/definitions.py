@@ -1,13 +1,14 @@
 #!/usr/bin/env python3
-"""definitions.py: holds docs/MACHINE.md to the definition. Every definition of crates/machine/specs, but for the statements of
-theorems, stands there by its name, in backquotes; and every name that stands there is one of the specs or of the types. Prints
-what is missing, and a count; fails if anything is."""
+"""definitions.py: holds docs/MACHINE.md to the definition. Every definition of crates/machine/specs and crates/desk/specs, but
+for the statements of theorems, stands there by its name, in backquotes; and every name that stands there is one of the specs or
+of the types. Prints what is missing, and a count; fails if anything is."""
 import glob
 import os
 import re
 import sys
 
 DOCUMENT = "docs/MACHINE.md"
+CRATES = ["machine", "desk"]  # those that define
 THEOREMS = {"Theorems"}  # README.md has the table of theorems
 DEFINITION = r"^ *(?:(?:abbrev|unfoldable) pub|pub (?:record|data)) ([^\s:({]+)"
 WORD = r"[A-Za-z]\w*"
@@ -27,9 +28,13 @@ def found(pattern, files):
     return names
 
 
-machine = sorted(glob.glob("crates/machine/specs/*.antt"))
-known = machine + sorted(glob.glob("crates/cases/specs/*.antt")) + ["crates/machine/src/lib.rt"]
-definitions = {name: where for name, where in found(DEFINITION, machine).items() if where not in THEOREMS}
+def specs(crate):
+    return sorted(glob.glob(f"crates/{crate}/specs/*.antt"))
+
+
+defining = [file for crate in CRATES for file in specs(crate)]
+known = defining + specs("cases") + [f"crates/{crate}/src/lib.rt" for crate in CRATES]
+definitions = found(DEFINITION, [file for file in defining if module(file) not in THEOREMS])
 words = found(WORD, known).keys() | {module(file) for file in known}
 with open(DOCUMENT) as document:
     said = {part for name in re.findall(rf"`({WORD}(?:\.{WORD})?)`", document.read()) for part in name.split(".")}

@@ -1,28 +1,32 @@
 #!/bin/sh
 # Mutates the model in many small ways and checks that `compare`, with its default cases and seed, finds each; those of requests
-# 1/12 and 2/12 must be found by tests/system_370.rs and tests/which_table.rs too. Not in the gate. Takes some minutes. With
-# arguments: only the mutants whose names contain one of these words.
+# 1/12 and 2/12 must be found by tests/system_370.rs and tests/which_table.rs too. Those of the desk's model must be found by
+# `desk_calls` and by tests/desk.rs. Not in the gate. Takes some minutes. With arguments: only the mutants whose names contain
+# one of these words; the names of the desk's begin with "desk:".
 set -u
 . "$(dirname "$0")/../../tools/plain.sh"
 package=$(cd "$(dirname "$0")" && pwd)
 DREVOKAS_LIB=$(cd "${DREVOKAS_LIB:-$package/../../target/staticlib}" && pwd) || exit 2
-CARGO_TARGET_DIR=target
-export DREVOKAS_LIB CARGO_TARGET_DIR
+CARGO_TARGET_DIR=target CARGO_INCREMENTAL=1
+export DREVOKAS_LIB CARGO_TARGET_DIR CARGO_INCREMENTAL
 scratch=$(mktemp -d) || exit 2
 trap 'rm -rf "$scratch"' EXIT
 mkdir "$scratch/package"
 cp -R "$package/src" "$package/tests" "$package/build.rs" "$package/Cargo.toml" "$scratch/package/"
 cd "$scratch/package" || exit 2
-cargo build --release --offline --quiet --bin compare || exit 2
-cp src/model.rs "$scratch/model.rs"
+cargo build --release --offline --quiet || exit 2
+cp src/model.rs src/desk.rs "$scratch/"
 wanted="$*"
 caught=0
 missed=0
 total=0
-# The tests that must find a mutant.
+# The module that is mutated, and the program and the tests that must find a mutant.
+module=model
+comparison=compare
 suite=system_370
 
-# mutant NAME SED-SCRIPT [PROGRAM]: must be found by compare, or by PROGRAM, which is compare, tests or both.
+# mutant NAME SED-SCRIPT [PROGRAM]: must be found by the comparison, or by PROGRAM, which is compare (the comparison), tests or
+# both.
 mutant() {
     if [ -n "$wanted" ]; then
         found=no
@@ -32,14 +36,15 @@ mutant() {
         [ $found = yes ] || return
     fi
     total=$((total + 1))
-    sed -E "$2" "$scratch/model.rs" >src/model.rs
-    if cmp -s "$scratch/model.rs" src/model.rs; then
+    cp "$scratch/model.rs" "$scratch/desk.rs" src/
+    sed -E "$2" "$scratch/$module.rs" >"src/$module.rs"
+    if cmp -s "$scratch/$module.rs" "src/$module.rs"; then
         echo "MISSED  $1: the script changes nothing"
         missed=$((missed + 1))
         return
     fi
     program=${3:-compare}
-    if ! cargo build --release --offline --quiet --bin compare >"$scratch/build" 2>&1; then
+    if ! cargo build --release --offline --quiet --bin "$comparison" >"$scratch/build" 2>&1; then
         echo "MISSED  $1: does not build"
         grep -m 3 '^error' "$scratch/build"
         missed=$((missed + 1))
@@ -47,7 +52,7 @@ mutant() {
     fi
     found=''
     if [ "$program" != tests ]; then
-        target/release/compare >"$scratch/output" 2>&1
+        "target/release/$comparison" >"$scratch/output" 2>&1
         code=$?
         where=$(sed -n 's/^difference in case \([0-9]*\).*/\1/p' "$scratch/output")
         if [ $code -ne 1 ] || [ -z "$where" ]; then
@@ -396,6 +401,110 @@ mutant "the word's host fault without its entry" '/fn host_fault/,/^    }/ s/fau
 mutant "translate's host fault without its stage" '/^pub fn translate_and_walk/,/^}/ s/fault\.answer\(\)/Answer::HostFault(fault.code, fault.address, Table::NONE)/' both
 mutant "translate's exception without its stage" 's/Answer::ProgramException\(code, table\), None/Answer::ProgramException(code, Table { stage: Stage::None, ..table }), None/' both
 mutant "translate's exception without its entry" 's/Answer::ProgramException\(code, table\), None/Answer::ProgramException(code, Table::unread(table.stage)), None/' both
+
+# Request 3/12: in reach and valid.
+module=desk
+comparison=desk_calls
+suite=desk
+mutant "desk: segment table's length ignored" 's/segment >> 4 > self\.designation & 0x7F/false/' both
+mutant "desk: segment table's length off by one" 's/segment >> 4 > self\.designation/segment >> 4 >= self.designation/' both
+mutant "desk: designation bit 24 in the length" 's/self\.designation & 0x7F\b/self.designation \& 0xFF/' compare
+mutant "desk: designation bit 0 in the table's address" 's/self\.designation & 0x7FFF_F000/self.designation \& 0xFFFF_F000/' both
+mutant "desk: last segment entry of the storage out of reach" '/fn segment_entry\(/,/^    }/ s/\(at < self\.storage\.len\(\)\)/(at + 4 < self.storage.len())/' both
+mutant "desk: last page entry of the storage out of reach" '/fn host_page_entry\(/,/^    }/ s/\(at < self\.storage\.len\(\)\)/(at + 4 < self.storage.len())/' both
+mutant "desk: invalid segment entry taken" 's/bit\(segment_entry, 26\) \|\| bit\(segment_entry, 0\)/bit(segment_entry, 0)/' both
+mutant "desk: malformed segment entry taken" 's/bit\(segment_entry, 26\) \|\| bit\(segment_entry, 0\)/bit(segment_entry, 26)/' both
+mutant "desk: segment bit 27 tested" 's/bit\(segment_entry, 26\) \|\| bit\(segment_entry, 0\)/bit(segment_entry, 26) || bit(segment_entry, 27) || bit(segment_entry, 0)/' both
+mutant "desk: page table's length ignored" 's/index >> 4 > segment_entry & 0xF/false/' both
+mutant "desk: page table's length off by one" 's/index >> 4 > segment_entry/index >> 4 >= segment_entry/' both
+mutant "desk: page tables at multiples of 1,024" 's/segment_entry & 0x7FFF_FFC0/segment_entry \& 0x7FFF_FC00/' both
+mutant "desk: page bit 0 not tested" 's/let well_formed = !bit\(entry, 0\) && /let well_formed = /' both
+mutant "desk: page bit 20 not tested" 's/!bit\(entry, 20\) && //' both
+mutant "desk: page bit 23 not tested" 's/ && !bit\(entry, 23\)//' both
+mutant "desk: page bit 24 tested" 's/!bit\(entry, 23\)/!bit(entry, 23) \&\& !bit(entry, 24)/' both
+mutant "desk: page bit 21 not tested" 's/\(well_formed && !bit\(entry, 21\)\)/(well_formed)/' both
+mutant "desk: protected page not valid" 's/\(well_formed && !bit\(entry, 21\)\)/(well_formed \&\& !bit(entry, 21) \&\& !bit(entry, 22))/' both
+mutant "desk: frame past the storage not valid" 's/\(well_formed && !bit\(entry, 21\)\)/(well_formed \&\& !bit(entry, 21) \&\& ((entry \& 0x7FFF_F000) as usize) < self.storage.len())/' both
+mutant "desk: frame number of twelve bits" 's/then_some\(\(entry & 0x7FFF_F000\) >> 12\)/then_some(entry >> 12 \& 0xFFF)/' both
+mutant "desk: origin left out" 's/model::origin_bytes\(self\.record\) \/ FRAME as u32 \+ page/page/' both
+mutant "desk: pages prefixed" '/fn page_entry\(/,/^    }/ s/self\.host_page\(page\)/self.host_page(if page == 0 { model::prefix(self.record) >> 12 } else if page == model::prefix(self.record) >> 12 { 0 } else { page })/' both
+
+# Request 3/12: describing entries and guest frames.
+mutant "desk: a segment past the extent touched" 's/self\.host_page\(self\.pages\(\) - 1\) >> 8/self.host_page(self.pages()) >> 8/' compare
+mutant "desk: last segment not touched" 's/\.\.=self\.host_page\(self\.pages\(\) - 1\) >> 8/..=self.host_page(self.pages() - 1).saturating_sub(256).max(self.host_page(0)) >> 8/' both
+mutant "desk: segment entries no entries" 's/self\.segment_entries\(\)\.into_iter\(\)\.chain\(pages\)/pages/' both
+mutant "desk: invalid segment entries no entries" '/fn segment_entries\(/,/^    }/ s/\.collect\(\)/.filter(|\&at| word(self.storage, at) \& 0x8000_0020 == 0).collect()/' both
+mutant "desk: page entries no entries" 's/self\.segment_entries\(\)\.into_iter\(\)\.chain\(pages\)/self.segment_entries().into_iter().chain(pages.filter(|_| false))/' both
+mutant "desk: entries of pages not valid no entries" '/pub fn entries\(/,/^    }/ s/\(0\.\.self\.pages\(\)\)/(0..self.pages()).filter(|\&page| self.is_valid(page))/' both
+mutant "desk: entries of protected pages no entries" '/pub fn entries\(/,/^    }/ s/\.filter_map\(\|page\| self\.page_entry\(page\)\)/.filter_map(|page| self.page_entry(page)).filter(|\&at| !bit(word(self.storage, at), 22))/' compare
+mutant "desk: frames of protected pages no guest frames" '/pub fn guest_frames\(/,/^    }/ s/\(0\.\.self\.pages\(\)\)/(0..self.pages()).filter(|\&page| self.page_entry(page).is_some_and(|at| !bit(word(self.storage, at), 22)))/' both
+mutant "desk: first page's frame no guest frame" '/pub fn guest_frames\(/,/^    }/ s/\(0\.\.self\.pages\(\)\)/(1..self.pages())/' compare
+mutant "desk: frames of pages past the extent guest frames" '/pub fn guest_frames\(/,/^    }/ s/\(0\.\.self\.pages\(\)\)/(0..self.pages() + 1)/' both
+
+# Request 3/12: refusal 14.
+mutant "desk: tables before the call" 's/entry_in_guest_frame\(Tables \{ storage: &changed, \.\.before \}\)/entry_in_guest_frame(before)/' both
+mutant "desk: tables before and after the call" 's/entry_in_guest_frame\(Tables \{ storage: &changed, \.\.before \}\)/entry_in_guest_frame(before) || entry_in_guest_frame(Tables { storage: \&changed, ..before })/' both
+mutant "desk: what the call brings alone" 's/entry_in_guest_frame\(Tables \{ storage: &changed, \.\.before \}\)/!entry_in_guest_frame(before) \&\& entry_in_guest_frame(Tables { storage: \&changed, ..before })/' both
+mutant "desk: entry in a guest frame taken" 's/self\.entry_in_guest_frame \|\| //' both
+mutant "desk: second page taken" 's/self\.second_page \|\| //' both
+mutant "desk: segment entry taken" 's/ \|\| self\.segment_entry$//' both
+mutant "desk: second page lower alone" 's/other != page && /other < page \&\& /' both
+mutant "desk: second page higher alone" 's/other != page && /other > page \&\& /' both
+mutant "desk: second page valid alone" 's/other != page && /other != page \&\& before.is_valid(other) \&\& /' both
+mutant "desk: second page in another segment's half alone" 's/other != page && /other != page \&\& other \& 0x80 != page \& 0x80 \&\& /' compare
+mutant "desk: second page outside the extent" 's/^    \(0\.\.before\.pages\(\)\)\.any\(.*/    let (first, last) = (before.host_page(0) >> 8 << 8, before.host_page(before.pages() - 1) | 0xFF);\n    (first..=last).any(|other| other != before.host_page(page) \&\& before.host_page_entry(other) == Some(at))/' both
+mutant "desk: second page out of reach" 's/^    \(0\.\.before\.pages\(\)\)\.any\(.*/    let index = before.host_page(page) \& 0xFF;\n    let at = at - 4 * index as usize;\n    let table = |segment: u32| before.segment_entry(segment).map(|entry| (word(before.storage, entry) \& 0x7FFF_FFC0) as usize);\n    let within = |segment: u32| (before.host_page(0)..=before.host_page(before.pages() - 1)).contains(\&(segment << 8 | index));\n    before.segments().filter(|\&segment| segment != before.host_page(page) >> 8 \&\& within(segment)).any(|segment| table(segment) == Some(at))/' both
+mutant "desk: any segment entry" 's/before\.segment_entries\(\)\.contains\(&at\)/(0..2048).any(|segment| before.segment_entry(segment) == Some(at))/' both
+mutant "desk: valid segment entry alone" 's/before\.segment_entries\(\)\.contains\(&at\)/before.segment_entries().contains(\&at) \&\& word(before.storage, at) \& 0x8000_0020 == 0/' both
+mutant "desk: invalid segment entry alone" 's/before\.segment_entries\(\)\.contains\(&at\)/before.segment_entries().contains(\&at) \&\& word(before.storage, at) \& 0x8000_0020 != 0/' both
+mutant "desk: 14 not asked of protect" 's/if conflict\.any\(\) \{/if conflict.any() \&\& !(entry \& 0x600 == 0x200) {/' both
+mutant "desk: 14 not asked of remove" 's/if conflict\.any\(\) \{/if conflict.any() \&\& entry \& 0x400 == 0 {/' both
+mutant "desk: 14 asked of the list" '/^pub fn list_pages/,/^}/ s/^    for page in/    if entry_in_guest_frame(tables) { return Answer::Refused(14); }\n&/' both
+
+# Request 3/12: the order of the refusals.
+mutant "desk: reserved bytes before the storage" '/^fn turned_away/,/^}/ { s/\.or_else\(\|\| model::refuse_storage\(storage\.len\(\), keys\.len\(\)\)\)/.or_else(|| model::refuse_reserved(record)).or_else(|| model::refuse_storage(storage.len(), keys.len()))/ }' both
+mutant "desk: reserved bytes not tested" '/^fn turned_away/,/^}/ s/\.or_else\(\|\| model::refuse_reserved\(record\)\)//' both
+mutant "desk: keys not tested" '/^fn turned_away/,/^}/ s/refuse_storage\(storage\.len\(\), keys\.len\(\)\)/refuse_storage(storage.len(), if keys.len() == usize::MAX { 0 } else { storage.len() \/ FRAME })/' both
+mutant "desk: entry failure before the reserved bytes" '/^fn turned_away/,/^}/ s/^    if let Some\(number\) = refusal \{/    if matches!(refusal, Some(7)) \&\& !model::entry_is_good(record) { return Some(Answer::EntryFailed); }\n&/' both
+mutant "desk: entry failure as refusal 10" 's/then_some\(Answer::EntryFailed\)/then_some(Answer::Refused(10))/' both
+mutant "desk: the page at the extent taken" 's/if page >= tables\.pages\(\)/if page > tables.pages()/' compare
+mutant "desk: 12 before 10" '/^fn set_bits/,/^}/ s/Err\(answer\) => return answer\.into\(\)/Err(_) => return Answer::Refused(12).into()/' both
+mutant "desk: 13 before 11" '/^pub fn add_page/,/^}/ s/if before\.is_valid\(page\) \{/if before.is_valid(page) \&\& (frame as usize) < storage.len() \/ FRAME {/' both
+mutant "desk: 13 before 10" '/^pub fn add_page/,/^}/ s/if let Err\(answer\) = chosen_entry\(before, page\) \{/if frame as usize >= storage.len() \/ FRAME { return Answer::Refused(13).into(); }\n&/' both
+mutant "desk: 11 for an entry with bit 21 zero" '/^pub fn add_page/,/^}/ s/if before\.is_valid\(page\)/if before.page_entry(page).is_some_and(|at| !bit(word(before.storage, at), 21))/' both
+mutant "desk: frame at the end of the storage taken" 's/if frame as usize >= storage/if frame as usize > storage/' both
+mutant "desk: frame number cut to 19 bits" '/^pub fn add_page/,/^}/ s/if frame as usize >= storage/if frame as usize \& 0x7_FFFF >= storage/' both
+mutant "desk: frame number cut to 20 bits" '/^pub fn add_page/,/^}/ s/if frame as usize >= storage/if frame as usize \& 0xF_FFFF >= storage/' both
+mutant "desk: frame of another page refused" '/^pub fn add_page/,/^}/ s/if frame as usize >= storage\.len\(\) \/ FRAME/if frame as usize >= storage.len() \/ FRAME || before.guest_frames().contains(\&(frame as usize))/' both
+mutant "desk: a word too few taken" 's/if words\.len\(\) < tables\.pages\(\) as usize/if words.len() + 1 < tables.pages() as usize/; s/words\[page as usize\] = (.*);/if let Some(word) = words.get_mut(page as usize) { *word = \1; }/' both
+mutant "desk: a word more asked for" 's/if words\.len\(\) < tables/if words.len() <= tables/' both
+
+# Request 3/12: what is written.
+mutant "desk: add keeps the ignored bits" '/^pub fn add_page/,/^}/ s/page, frame << 12\)/page, frame << 12 | word(storage, Tables { record, storage, designation }.page_entry(page).unwrap()) \& 0xFF)/' both
+mutant "desk: add keeps the protection" '/^pub fn add_page/,/^}/ s/page, frame << 12\)/page, frame << 12 | word(storage, Tables { record, storage, designation }.page_entry(page).unwrap()) \& 0x200)/' both
+mutant "desk: remove clears the ignored bits" 's/entry \| bits\)/if bits == 0x400 { entry \& !0xFF | bits } else { entry | bits })/' both
+mutant "desk: remove takes the protection away" 's/entry \| bits\)/if bits == 0x400 { entry \& !0x200 | bits } else { entry | bits })/' both
+mutant "desk: remove clears the entry" 's/entry \| bits\)/if bits == 0x400 { bits } else { entry | bits })/' both
+mutant "desk: protect clears the ignored bits" 's/entry \| bits\)/if bits == 0x200 { entry \& !0xFF | bits } else { entry | bits })/' both
+mutant "desk: protect takes the protection away" 's/entry \| bits\)/if bits == 0x200 { entry ^ bits } else { entry | bits })/' both
+mutant "desk: remove sets bit 20" 's/designation, page, 0x400\)/designation, page, 0x800)/' both
+mutant "desk: protect sets bit 23" 's/designation, page, 0x200\)/designation, page, 0x100)/' both
+mutant "desk: remove protects too" 's/designation, page, 0x400\)/designation, page, 0x600)/' both
+
+# Request 3/12: the number and the list.
+mutant "desk: number stops at FFFFFFFF hex" 's/number\.wrapping_add\(1\)/number.saturating_add(1)/' both
+mutant "desk: number stops at 0" 's/number\.wrapping_sub\(1\)/number.saturating_sub(1)/' both
+mutant "desk: add leaves the number" 's/number\.wrapping_add\(1\)/number.wrapping_add(0)/' both
+mutant "desk: number counted in the tables" 's/\*number = number\.wrapping_add\(1\)/*number = Tables { record, storage, designation }.valid_pages()/' both
+mutant "desk: a refused add counts" '/^pub fn add_page/,/^}/ s/if outcome\.answer == Answer::Done\(0\)/if outcome.answer == Answer::Done(0) || outcome.conflict.any()/' both
+mutant "desk: a refused remove counts" '/^pub fn remove_page/,/^}/ s/if outcome\.answer == Answer::Done\(0\)/if outcome.answer != Answer::EntryFailed/' both
+mutant "desk: zero where not valid" 's/unwrap_or\(NOT_VALID\)/unwrap_or(0)/' both
+mutant "desk: words where not valid stay" 's/words\[page as usize\] = tables\.frame_of\(page\)\.unwrap_or\(NOT_VALID\);/if let Some(frame) = tables.frame_of(page) { words[page as usize] = frame; }/' both
+mutant "desk: words past the extent filled" '/^pub fn list_pages/,/^}/ s/^    for page in/    words.fill(NOT_VALID);\n&/' both
+mutant "desk: the frame's address listed" 's/tables\.frame_of\(page\)\.unwrap_or/tables.frame_of(page).map(|frame| frame << 12).unwrap_or/' both
+mutant "desk: frames past the storage not listed" 's/tables\.frame_of\(page\)\.unwrap_or/tables.frame_of(page).filter(|\&frame| (frame as usize) < storage.len() \/ FRAME).unwrap_or/' both
+mutant "desk: the list answers no number" 's/Answer::Done\(tables\.valid_pages\(\)\)/Answer::Done(0)/' both
+mutant "desk: the list answers all pages" 's/Answer::Done\(tables\.valid_pages\(\)\)/Answer::Done(tables.pages())/' both
 
 echo "mutants: $total, caught $caught, missed $missed"
 [ $missed -eq 0 ] && [ $total -gt 0 ]

@@ -14,7 +14,8 @@ use Rattle.machine.specs.Refusals.{runVerdict}
 use Rattle.machine.specs.Entry.{entryGood}
 use Rattle.machine.specs.Sought.{nowhere, endSought}
 use Rattle.machine.specs.Operations.{Result, runOf}
-use Rattle.packing.specs.Packing.{packedAnswer, placeAfterRun}
+use Rattle.desk.specs.Desk as desk
+use Rattle.packing.specs.Packing.{packedAnswer, placeAfterRun, packedCall, packedListing}
 
 -- the input of a run is accepted, and entry lets the guest through
 pub record Starts (n : Numbers) (r storage keys : List ℕ) (g : Guest) : Type 0 where
@@ -41,3 +42,14 @@ pub record RunGives (n : Numbers) (r storage keys : List ℕ) (before x : ℕ) (
   pub description : r′ ≡ runOf n r storage keys .description
   pub bytes : storage′ ≡ runOf n r storage keys .storage
   pub marks : keys′ ≡ runOf n r storage keys .keys
+
+-- a desk call, packed: answer, storage and number of valid pages are those of the definition
+pub record DeskGives (result : desk.Result) (x : ℕ) (storage : List ℕ) (number : ℕ) : Type 0 where
+  pub answer : x ≡ packedCall (result .answer)
+  pub bytes : storage ≡ result .storage
+  pub count : number ≡ result .number
+
+-- a listing, packed: answer and workspace are those of the definition
+pub record ListGives (result : desk.Listing) (x : ℕ) (words : List ℕ) : Type 0 where
+  pub answer : x ≡ packedListing (result .answer)
+  pub shown : words ≡ result .words

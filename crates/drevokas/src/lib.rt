@@ -1,5 +1,6 @@
-// The public operations, for C: check a record, translate one guest address, run. No operation has a requires; each contract equates
-// the answer with the definition of machine's Operations, for every input, refused input too, packed as packing's specs/Packing says.
+// The public operations, for C: check a record, translate one guest address, run; add, remove and protect a guest page, list the pages.
+// No operation has a requires; each contract equates the answer, and all that the operation may write, with the definition of machine's
+// Operations or of desk's Desk, for every input, refused input too, packed as packing's specs/Packing says.
 ghost use mathlib.Core.Path.{_≡_};
 ghost use Prim.Native.Nat.{_≤_};
 ghost use mathlib.Core.Bool.{true, false, cond};
@@ -10,7 +11,9 @@ ghost use Rattle.machine.specs.Host.{host};
 ghost use Rattle.machine.specs.Sought.{endSought};
 ghost use Rattle.machine.specs.Operations.{check, translate, runAs};
 ghost use Rattle.packing.specs.Packing.{packedCheck, packedTranslation, placeAfter};
-ghost use Rattle.drevokas.specs.Giving.{Starts, Gives, answerSought, RunGives};
+ghost use Rattle.drevokas.specs.Giving.{Starts, Gives, answerSought, RunGives, DeskGives, ListGives};
+ghost use Rattle.desk.specs.Desk.{deskOf, listOf};
+use desk::Change;
 use machine::Answer;
 use machine::End;
 use machine::Guest;
@@ -230,4 +233,72 @@ pub extern "C" fn drevokas_run(
     let table = table_of(storage, designation, a);
     *place = packing::place_after_run(a, table, *place);
     packing::pack_answer(a, table)
+}
+
+// Adds a guest page with a frame: done, code 32, or refused. The number of valid pages is one more where it is done.
+#[no_mangle]
+pub extern "C" fn drevokas_add_page(
+    r: &[u8],
+    storage: &mut [u8],
+    keys: &[u8],
+    designation: u32,
+    page: u32,
+    frame: u32,
+    valid: &mut u32,
+) -> u64
+    ensures { λ x. ⌜ DeskGives (deskOf (Change.Add frame) (now (r .entry)) designation (now (storage .entry)) (now (keys .entry)) page (now (valid .entry))) x (now (storage .exit)) (now (valid .exit)) ⌝ }
+{
+    packing::pack_call(paging::change(
+        r,
+        storage,
+        keys,
+        Change::Add(frame),
+        designation,
+        page,
+        valid,
+    ))
+}
+
+// Removes a guest page: done, code 32, or refused. The number of valid pages is one less where it is done.
+#[no_mangle]
+pub extern "C" fn drevokas_remove_page(
+    r: &[u8],
+    storage: &mut [u8],
+    keys: &[u8],
+    designation: u32,
+    page: u32,
+    valid: &mut u32,
+) -> u64
+    ensures { λ x. ⌜ DeskGives (deskOf Change.Remove (now (r .entry)) designation (now (storage .entry)) (now (keys .entry)) page (now (valid .entry))) x (now (storage .exit)) (now (valid .exit)) ⌝ }
+{
+    packing::pack_call(paging::change(r, storage, keys, Change::Remove, designation, page, valid))
+}
+
+// Protects a guest page: done, code 32, or refused. The number of valid pages stays.
+#[no_mangle]
+pub extern "C" fn drevokas_protect_page(
+    r: &[u8],
+    storage: &mut [u8],
+    keys: &[u8],
+    designation: u32,
+    page: u32,
+    valid: &mut u32,
+) -> u64
+    ensures { λ x. ⌜ DeskGives (deskOf Change.Protect (now (r .entry)) designation (now (storage .entry)) (now (keys .entry)) page (now (valid .entry))) x (now (storage .exit)) (now (valid .exit)) ⌝ }
+{
+    packing::pack_call(paging::change(r, storage, keys, Change::Protect, designation, page, valid))
+}
+
+// Lists the frames of the guest's pages, a word each: done with the number of valid pages, code 32, or refused.
+#[no_mangle]
+pub extern "C" fn drevokas_list_pages(
+    r: &[u8],
+    storage: &[u8],
+    keys: &[u8],
+    designation: u32,
+    frames: &mut [u32],
+) -> u64
+    ensures { λ x. ⌜ ListGives (listOf (now (r .entry)) designation (now (storage .entry)) (now (keys .entry)) (now (frames .entry))) x (now (frames .exit)) ⌝ }
+{
+    packing::pack_listing(paging::list(r, storage, keys, designation, frames))
 }

@@ -1,4 +1,4 @@
--- The three public operations: check a record, translate one guest address, run. Document 01, "What is built", "The record", "Entry".
+-- Three of the public operations: check a record, translate one guest address, run; those of the page desk are desk's. Document 01, "What is built", "The record", "Entry".
 -- Request 1/12: a System/370 guest has no DAT. Request 2/12: an answer that fails has the table that was bad.
 use Prim.Native.Nat.{ℕ}
 use mathlib.Core.Bool.{Bool, cond, not, _&&_}

@@ -12,6 +12,10 @@ use Rattle.machine.specs.declared.Reason.the-variants.{Validity}
 use Rattle.machine.specs.declared.Sought.{Sought}
 use Rattle.machine.specs.declared.Translated.{Translated}
 use Rattle.machine.specs.declared.Translated.the-variants as translated
+use Rattle.desk.specs.declared.Called.{Called}
+use Rattle.desk.specs.declared.Called.the-variants as called
+use Rattle.desk.specs.declared.Listed.{Listed}
+use Rattle.desk.specs.declared.Listed.the-variants as listed
 use Rattle.machine.specs.Answers.{reasonCode, endAddress, stageNumber}
 use Rattle.machine.specs.Sought.{nowhere}
 
@@ -78,3 +82,15 @@ packedAnswer (answer.Ended e units) s = packedEnd e s units
 unfoldable pub placeAfterRun : Answer → Sought → ℕ → ℕ
 placeAfterRun (answer.Refused number) s before = before
 placeAfterRun (answer.Ended e units) s before = placed s (endAddress e)
+
+-- the answer of a call that adds, removes or protects a page
+unfoldable pub packedCall : Called → ℕ
+packedCall (called.Refused number) = packed refusedKind number nowhere 0
+packedCall called.Validity = packed interceptedKind (reasonCode Validity) nowhere 0
+packedCall called.Done = packed goodKind 0 nowhere 0
+
+-- the answer of a listing: the number of valid pages stands where a run has its units
+unfoldable pub packedListing : Listed → ℕ
+packedListing (listed.Refused number) = packed refusedKind number nowhere 0
+packedListing listed.Validity = packed interceptedKind (reasonCode Validity) nowhere 0
+packedListing (listed.Pages valid) = packed goodKind 0 nowhere valid

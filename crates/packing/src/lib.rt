@@ -4,7 +4,9 @@ ghost use mathlib.Core.Path.{_≡_};
 ghost use Prim.Native.Nat.{_+_, _*_, _%_, _<_};
 ghost use Rattle.machine.specs.Answers.{reasonCode, endAddress, stageNumber};
 ghost use Rattle.machine.specs.Sought.{nowhere};
-ghost use Rattle.packing.specs.Packing.{packed, packedCheck, packedFailure, packedTranslation, placeAfter, packedEnd, packedAnswer, placeAfterRun};
+ghost use Rattle.packing.specs.Packing.{packed, packedCheck, packedFailure, packedTranslation, placeAfter, packedEnd, packedAnswer, placeAfterRun, packedCall, packedListing};
+use desk::Called;
+use desk::Listed;
 use machine::Answer;
 use machine::Checked;
 use machine::End;
@@ -174,5 +176,25 @@ pub fn place_after_run(x: Answer, s: Sought, old: u64) -> u64
     match x {
         Answer::Refused(_) => old,
         Answer::Ended { end, units: _ } => placed(s.entry, end_address(end)),
+    }
+}
+
+pub fn pack_call(x: Called) -> u64
+    ensures { λ r. ⌜ r ≡ packedCall x ⌝ }
+{
+    match x {
+        Called::Refused(number) => pack(REFUSED, number),
+        Called::Validity => pack(INTERCEPTED, VALIDITY),
+        Called::Done => pack(GOOD, 0),
+    }
+}
+
+pub fn pack_listing(x: Listed) -> u64
+    ensures { λ r. ⌜ r ≡ packedListing x ⌝ }
+{
+    match x {
+        Listed::Refused(number) => pack(REFUSED, number),
+        Listed::Validity => pack(INTERCEPTED, VALIDITY),
+        Listed::Pages(valid) => pack_staged(GOOD, 0, Stage::None) + valid as u64,
     }
 }

@@ -1,3 +1,4 @@
 pub mod OneFrame
 pub mod IsolationIsNotEmpty
 pub mod TimedRuns
+pub mod ChangesExist

@@ -1,5 +1,6 @@
-//! The three C functions of drevokas.h, and the unpacking of their answers.
+//! The C functions of drevokas.h, and the unpacking of their answers.
 
+use crate::desk::{self, Call};
 use crate::model::{Answer, Table};
 
 extern "C" {
@@ -30,6 +31,55 @@ extern "C" {
         time: u32,
         budget: u32,
         location: *mut u64,
+    ) -> u64;
+
+    fn drevokas_add_page(
+        record: *const u8,
+        record_len: usize,
+        storage: *mut u8,
+        storage_len: usize,
+        keys: *const u8,
+        keys_len: usize,
+        designation: u32,
+        page: u32,
+        frame: u32,
+        valid: *mut u32,
+    ) -> u64;
+
+    fn drevokas_remove_page(
+        record: *const u8,
+        record_len: usize,
+        storage: *mut u8,
+        storage_len: usize,
+        keys: *const u8,
+        keys_len: usize,
+        designation: u32,
+        page: u32,
+        valid: *mut u32,
+    ) -> u64;
+
+    fn drevokas_protect_page(
+        record: *const u8,
+        record_len: usize,
+        storage: *mut u8,
+        storage_len: usize,
+        keys: *const u8,
+        keys_len: usize,
+        designation: u32,
+        page: u32,
+        valid: *mut u32,
+    ) -> u64;
+
+    fn drevokas_list_pages(
+        record: *const u8,
+        record_len: usize,
+        storage: *const u8,
+        storage_len: usize,
+        keys: *const u8,
+        keys_len: usize,
+        designation: u32,
+        frames: *mut u32,
+        count: usize,
     ) -> u64;
 }
 
@@ -140,4 +190,119 @@ pub fn run(
         )
     };
     Packed { word, location }
+}
+
+/// The answer that the library owes for an answer of the desk's model.
+pub fn pack_desk(answer: desk::Answer) -> u64 {
+    let (kind, number, pages) = match answer {
+        desk::Answer::Refused(number) => (REFUSED, number, 0),
+        desk::Answer::EntryFailed => (INTERCEPTED, 32, 0),
+        desk::Answer::Done(pages) => (GOOD, 0, pages),
+    };
+    (kind as u64) << 56 | (number as u64) << 48 | pages as u64
+}
+
+/// Any call at the desk. The number is of valid pages, the words are the workspace.
+pub fn desk_call(
+    record: &[u8],
+    storage: &mut [u8],
+    keys: &[u8],
+    designation: u32,
+    call: Call,
+    number: &mut u32,
+    words: &mut [u32],
+) -> u64 {
+    match call {
+        Call::Add { page, frame } => add_page(record, storage, keys, designation, page, frame, number),
+        Call::Remove { page } => remove_page(record, storage, keys, designation, page, number),
+        Call::Protect { page } => protect_page(record, storage, keys, designation, page, number),
+        Call::List => list_pages(record, storage, keys, designation, words),
+    }
+}
+
+pub fn add_page(
+    record: &[u8],
+    storage: &mut [u8],
+    keys: &[u8],
+    designation: u32,
+    page: u32,
+    frame: u32,
+    number: &mut u32,
+) -> u64 {
+    unsafe {
+        drevokas_add_page(
+            record.as_ptr(),
+            record.len(),
+            storage.as_mut_ptr(),
+            storage.len(),
+            keys.as_ptr(),
+            keys.len(),
+            designation,
+            page,
+            frame,
+            number,
+        )
+    }
+}
+
+pub fn remove_page(
+    record: &[u8],
+    storage: &mut [u8],
+    keys: &[u8],
+    designation: u32,
+    page: u32,
+    number: &mut u32,
+) -> u64 {
+    unsafe {
+        drevokas_remove_page(
+            record.as_ptr(),
+            record.len(),
+            storage.as_mut_ptr(),
+            storage.len(),
+            keys.as_ptr(),
+            keys.len(),
+            designation,
+            page,
+            number,
+        )
+    }
+}
+
+pub fn protect_page(
+    record: &[u8],
+    storage: &mut [u8],
+    keys: &[u8],
+    designation: u32,
+    page: u32,
+    number: &mut u32,
+) -> u64 {
+    unsafe {
+        drevokas_protect_page(
+            record.as_ptr(),
+            record.len(),
+            storage.as_mut_ptr(),
+            storage.len(),
+            keys.as_ptr(),
+            keys.len(),
+            designation,
+            page,
+            number,
+        )
+    }
+}
+
+pub fn list_pages(record: &[u8], storage: &[u8], keys: &[u8], designation: u32, words: &mut [u32]) -> u64 {
+    unsafe {
+        drevokas_list_pages(
+            record.as_ptr(),
+            record.len(),
+            storage.as_ptr(),
+            storage.len(),
+            keys.as_ptr(),
+            keys.len(),
+            designation,
+            words.as_mut_ptr(),
+            words.len(),
+        )
+    }
 }

@@ -4,6 +4,8 @@
 
 use crate::model::{self, Answer, FRAME};
 
+pub mod desk;
+
 /// splitmix64.
 pub struct Rng(u64);
 

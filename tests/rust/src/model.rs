@@ -166,7 +166,7 @@ fn psw_bit(record: &[u8], bit: usize) -> bool {
 }
 
 /// Bit of a word, 0 to 31.
-fn bit(value: u32, number: u32) -> bool {
+pub fn bit(value: u32, number: u32) -> bool {
     value & (0x8000_0000 >> number) != 0
 }
 
@@ -255,7 +255,7 @@ fn advance(record: &mut [u8], ilc: u8) {
 // ---------------------------------------------------------------------------------------------------------------
 // The table of refusals: each operation makes the tests it has the input for, in the order of the numbers.
 
-fn refuse_record(record: &[u8]) -> Option<u8> {
+pub fn refuse_record(record: &[u8]) -> Option<u8> {
     // "1 unless record and length field are both 200 or both 208"
     let length = record.len();
     if length != 200 && length != 208 || halfword(record, 0) as usize != length {
@@ -268,7 +268,7 @@ fn refuse_record(record: &[u8]) -> Option<u8> {
     None
 }
 
-fn refuse_storage(storage_len: usize, keys_len: usize) -> Option<u8> {
+pub fn refuse_storage(storage_len: usize, keys_len: usize) -> Option<u8> {
     if storage_len == 0 || storage_len > 4096 * FRAME || storage_len % FRAME != 0 {
         return Some(3);
     }
@@ -288,7 +288,7 @@ fn refuse_numbers(budget: u32, time: u32) -> Option<u8> {
     None
 }
 
-fn refuse_reserved(record: &[u8]) -> Option<u8> {
+pub fn refuse_reserved(record: &[u8]) -> Option<u8> {
     if record[66..72].iter().any(|&byte| byte != 0) {
         return Some(7);
     }

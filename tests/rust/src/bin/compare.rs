@@ -1,39 +1,14 @@
 //! compare [CASES] [SEED]: check, translate and run of the library against the model, on random cases.
 
 use drevokas_tests::generate::{self, Case, Rng, Wishes};
+use drevokas_tests::guarded::Guarded;
 use drevokas_tests::report::{self, Tally};
 use drevokas_tests::{ffi, model};
 use std::process::exit;
 use std::time::Instant;
 
 const TRANSLATIONS: u32 = 4;
-
-/// Bytes with a margin on both sides, to find a store outside.
-struct Guarded {
-    bytes: Vec<u8>,
-    length: usize,
-}
-
-const MARGIN: usize = 64;
 const MARGIN_BYTE: u8 = 0xA7;
-
-impl Guarded {
-    fn new(content: &[u8]) -> Guarded {
-        let mut bytes = Vec::with_capacity(content.len() + 2 * MARGIN);
-        bytes.resize(MARGIN, MARGIN_BYTE);
-        bytes.extend_from_slice(content);
-        bytes.resize(content.len() + 2 * MARGIN, MARGIN_BYTE);
-        Guarded { bytes, length: content.len() }
-    }
-
-    fn content(&mut self) -> &mut [u8] {
-        &mut self.bytes[MARGIN..MARGIN + self.length]
-    }
-
-    fn margins_stand(&self) -> bool {
-        self.bytes[..MARGIN].iter().chain(&self.bytes[MARGIN + self.length..]).all(|&byte| byte == MARGIN_BYTE)
-    }
-}
 
 fn main() {
     let (cases, seed) = report::arguments(200_000);
@@ -72,9 +47,9 @@ fn main() {
 
 /// Whether library and model agree on the case.
 fn compare(rng: &mut Rng, case: &Case, tally: &mut Tally) -> bool {
-    let mut record = Guarded::new(&case.record);
-    let mut storage = Guarded::new(&case.storage);
-    let mut keys = Guarded::new(&case.keys);
+    let mut record = Guarded::new(&case.record, MARGIN_BYTE);
+    let mut storage = Guarded::new(&case.storage, MARGIN_BYTE);
+    let mut keys = Guarded::new(&case.keys, MARGIN_BYTE);
 
     let owed = model::check(&case.record);
     tally.check(owed);

@@ -1,4 +1,5 @@
-//! A case by the model and by the library: both give the same answer.
+//! A case by the model and by the library: both give the same answer. Not every test has use for all of it.
+#![allow(dead_code)]
 
 use drevokas_tests::ffi;
 use drevokas_tests::generate::Case;

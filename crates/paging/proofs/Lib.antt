@@ -1,0 +1,3 @@
+-- Laws of the page desk's code.
+pub mod Meeting
+pub mod Accepting
