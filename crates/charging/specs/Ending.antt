@@ -3,8 +3,8 @@ use mathlib.Core.Bool.{Bool, true, false}
 use Rattle.machine.specs.declared.Cpu.{Cpu}
 use Rattle.machine.specs.declared.End.{End}
 use Rattle.machine.specs.declared.End.the-variants as end
-use Rattle.execute.specs.declared.Event.{Event}
-use Rattle.execute.specs.declared.Event.the-variants.{Completed, Intercepted, Faulted}
+use Rattle.interruptions.specs.declared.Event.{Event}
+use Rattle.interruptions.specs.declared.Event.the-variants.{Completed, Intercepted, Faulted}
 
 unfoldable pub isCompleted : Event → Bool
 isCompleted Completed = true

@@ -13,8 +13,8 @@ use Rattle.machine.specs.Words.{wordAt, wordBytes}
 use Rattle.machine.specs.Record.{guestOf}
 use Rattle.machine.specs.Interval.{active, falls, wordAfter, withoutT, requestAfter}
 use Rattle.machine.specs.Run.{Machine, clearsT}
-use Rattle.execute.specs.declared.Event.{Event}
-use Rattle.execute.specs.declared.Event.the-variants.{Completed, Intercepted, Faulted}
+use Rattle.interruptions.specs.declared.Event.{Event}
+use Rattle.interruptions.specs.declared.Event.the-variants.{Completed, Intercepted, Faulted}
 use Rattle.interval.specs.declared.Word.{Word}
 use Rattle.interval.specs.declared.Word.the-variants as word
 use Rattle.interval.specs.Standing.{Stands, InStorage}

@@ -10,7 +10,6 @@ use Rattle.machine.specs.declared.Cpu.{Cpu}
 use Rattle.machine.specs.declared.Failure.{Failure}
 use Rattle.machine.specs.declared.Guest.{Guest}
 use Rattle.machine.specs.declared.Psw.{Psw}
-use Rattle.machine.specs.declared.Reason.{Reason}
 use Rattle.machine.specs.declared.Reason.the-variants.{Program, Operation}
 use Rattle.machine.specs.declared.Text.{Text}
 use Rattle.machine.specs.Words.{bit, wordBytes}
@@ -19,11 +18,11 @@ use Rattle.machine.specs.Failures.{operation, isTranslation}
 use Rattle.machine.specs.Host.{Host}
 use Rattle.machine.specs.Outcomes.{Outcome, intercepted, faulted, Progress}
 use Rattle.machine.specs.Interruptions.{Areas, programAreas, codeFields, fieldsBeside, interrupt, afterException, programFields, exception}
-use Rattle.execute.specs.declared.Done.{Done}
-use Rattle.execute.specs.declared.Event.the-variants as event
-use Rattle.execute.specs.declared.Frames.{Frames}
-use Rattle.execute.specs.After.{eventOf, cpuAfter, storageAfter, keysAfter, leftBy, Standing, Left, codeBytes}
-use Rattle.execute.proofs.Leaving.{left-faulted}
+use Rattle.interruptions.specs.declared.Done.{Done}
+use Rattle.interruptions.specs.declared.Event.the-variants as event
+use Rattle.interruptions.specs.declared.Frames.{Frames}
+use Rattle.interruptions.specs.After.{leftBy, Standing, Left, codeBytes}
+use Rattle.interruptions.proofs.Leaving.{left-faulted, left-intercepted}
 
 pub code-word : (ilc code : ℕ) → ilc ≤ 3 → code < 65536 → wordBytes (ilc * 131072 + code) ≡ codeFields ilc code
 code-word ilc code short small =
@@ -50,11 +49,6 @@ fields-as-word x f ilc short small told same =
 
 taken : {b : Bool} (o p : Outcome) → b ≡ true → cond b o p ≡ o
 taken o p e = ap (λ b. cond b o p) e
-
-pub left-intercepted : (h : Host) (g : Guest) (c : Cpu) (r : Reason) (to : Cpu) (d : Done) → d .event ≡ event.Intercepted r → leftBy c d ≡ to
-    → Left h g c (intercepted r to) d (h .storage) (h .keys)
-unfolding eventOf cpuAfter storageAfter keysAfter
-left-intercepted h g c r to d ended left = record { event = ended; cpu = left; bytes = refl; marks = refl }
 
 module _ (h : Host) (x : Progress) {g : Guest} {clock : ℕ} {c : Cpu} {text : Text} {t : Frames} (standing : Standing h x g clock c text t)
     (to : Cpu) (f : Failure) where

@@ -1,34 +1,26 @@
 -- The instructions that fetch or store an operand, by where the operand stands.
 -- Assumes nothing.
 use Prim.Native.Nat.{ℕ, _-_, _≤_, _<_}
-use native.Mathlib.Nat.{suc-inj}
-use native.Mathlib.Omega.{arith}
 use mathlib.Core.Path.{_≡_, refl, ap, sym, _∙_}
 use mathlib.Core.Bool.{true, false}
-use mathlib.Core.List.{List, [], _∷_, _++_, append-nil}
+use mathlib.Core.List.{List, [], _++_, append-nil}
 use lib.ListN.{length, take, drop}
 use lib.Seq.{sets}
 use Rattle.machine.specs.declared.Cpu.{Cpu}
 use Rattle.machine.specs.declared.Failure.{Failure}
 use Rattle.machine.specs.Psw.{wrap}
-use Rattle.machine.specs.Host.{Host, Located, places, backing, view, referenced, changed, stored, marked}
+use Rattle.machine.specs.Host.{Host, backing, view, referenced, changed, stored, marked}
 use Rattle.machine.specs.Addresses.{whenReached}
 use Rattle.machine.specs.Outcomes.{Progress}
-use Rattle.machine.specs.Interruptions.{withBytes, exception}
+use Rattle.machine.specs.Interruptions.{exception}
 use Rattle.machine.specs.Execute.{finish, fetching, storing}
 use Rattle.machine.specs.Run.{markedBy}
 use Rattle.laws.proofs.PageBytes.{marked-append, referenced-twice, changed-twice}
 use Rattle.address.specs.declared.Operand.the-variants.{Open, Shut}
 use Rattle.address.specs.Operands.{operandOf, markOperand}
 use Rattle.address.proofs.Operands.{operand-shut, operand-open}
-use Rattle.execute.specs.After.{eventOf, cpuAfter, storageAfter, keysAfter, Completes}
-
--- bytes to be stored stay at their places
-pub places-withBytes : (ls : List Located) (bytes : List ℕ) → length ls ≡ length bytes → places (withBytes ls bytes) ≡ places ls
-unfolding withBytes
-places-withBytes [] bytes e = refl
-places-withBytes (l ∷ ls) [] e = absurd (omega arith)
-places-withBytes (l ∷ ls) (b ∷ bytes) e = ap (λ more. l .absolute ∷ more) (places-withBytes ls bytes (suc-inj e))
+use Rattle.interruptions.specs.After.{eventOf, cpuAfter, storageAfter, keysAfter, Completes}
+use Rattle.interruptions.proofs.Areas.{places-withBytes}
 
 -- an instruction that fetches and stores nothing but its text
 pub finish-completes : (h : Host) (x : Progress) (c : Cpu)

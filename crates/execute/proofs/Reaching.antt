@@ -10,28 +10,27 @@ use lib.Seq.{sets}
 use Rattle.machine.specs.declared.Cpu.{Cpu}
 use Rattle.machine.specs.declared.Failure.{Failure}
 use Rattle.machine.specs.declared.Guest.{Guest}
-use Rattle.machine.specs.declared.Psw.{Psw}
 use Rattle.machine.specs.declared.Text.{Text}
 use Rattle.machine.specs.Refusals.{framesOf}
-use Rattle.machine.specs.Psw.{wrap, withPsw, withAddress, advanced}
+use Rattle.machine.specs.Psw.{wrap}
 use Rattle.machine.specs.Host.{Host, host, view, referenced, changed}
 use Rattle.machine.specs.Outcomes.{Progress}
 use Rattle.machine.specs.Interruptions.{exception}
-use Rattle.machine.specs.Execute.{next, finish, fetching, storing}
+use Rattle.machine.specs.Execute.{finish, fetching, storing}
 use Rattle.laws.proofs.PageBytes.{wrap-by-mode}
 use Rattle.address.specs.declared.Operand.{Operand}
 use Rattle.address.specs.declared.Operand.the-variants.{Open, Shut}
 use Rattle.address.specs.Operands.{operandOf, markOperand}
 use Rattle.address.proofs.Operands.{operand-open}
 use Rattle.address.proofs.Reached.{operand-code, operand-keys}
-use Rattle.execute.specs.declared.Done.{Done}
-use Rattle.execute.specs.declared.Event.the-variants as event
-use Rattle.execute.specs.declared.Frames.{Frames}
+use Rattle.interruptions.specs.declared.Done.{Done}
+use Rattle.interruptions.specs.declared.Event.the-variants as event
+use Rattle.interruptions.specs.declared.Frames.{Frames}
+use Rattle.interruptions.specs.After.{leftBy, markText, Standing, Left}
+use Rattle.interruptions.proofs.Leaving.{left-completed}
 use Rattle.execute.specs.declared.Reached.{Reached}
-use Rattle.execute.specs.After.{leftBy, markText, Standing, Left}
 use Rattle.execute.specs.Reaching.{InReach, Reaches}
 use Rattle.execute.proofs.Operations.{fetching-shut, fetching-open, storing-shut, storing-open, finish-completes}
-use Rattle.execute.proofs.Leaving.{left-completed}
 
 -- a wrapped address has 31 bits
 pub small-of-wrap : (c : Cpu) (a : ℕ) → wrap c a ≡ a → a < 2147483648
@@ -75,11 +74,6 @@ at-standing P h x standing p =
     }) p
 
 module _ (h : Host) (x : Progress) {g : Guest} {clock : ℕ} {c : Cpu} {text : Text} {t : Frames} (standing : Standing h x g clock c text t) where
-  -- past the instruction, from a state with the PSW that was advanced
-  pub past-it : (k : Cpu) (psw : Psw) → psw ≡ advanced k (text .ilc) .psw → withPsw k psw ≡ next x k
-  unfolding advanced withAddress withPsw
-  past-it k psw moved = ap (withPsw k) moved ∙ ap (λ u. advanced k (u .ilc)) (sym (standing .ofText))
-
   -- an instruction that ends with no operand
   pub left-finished : (to : Cpu) (d : Done) {keys : List ℕ} → d .event ≡ event.Completed → leftBy c d ≡ to → keys ≡ markText t (h .keys)
       → Left h g c (finish x to [] []) d (h .storage) keys

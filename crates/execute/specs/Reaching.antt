@@ -15,10 +15,10 @@ use Rattle.storage.specs.Entered.{Entered}
 use Rattle.address.specs.declared.Operand.{Operand}
 use Rattle.address.specs.declared.Operand.the-variants.{Open, Shut}
 use Rattle.address.specs.Operands.{markOperand}
-use Rattle.execute.specs.declared.Done.{Done}
-use Rattle.execute.specs.declared.Frames.{Frames}
+use Rattle.interruptions.specs.declared.Done.{Done}
+use Rattle.interruptions.specs.declared.Frames.{Frames}
+use Rattle.interruptions.specs.After.{WithKeys, Standing, Left, markText}
 use Rattle.execute.specs.declared.Reached.{Reached}
-use Rattle.execute.specs.After.{WithKeys, Standing, Left, markText}
 
 -- what an instruction may count on
 pub record Ready (storage keys : List ℕ) (g : Guest) (text : Text) (t : Frames) : Type 0 where

@@ -17,13 +17,14 @@ use Rattle.machine.specs.Host.{Host}
 use Rattle.machine.specs.Outcomes.{Progress}
 use Rattle.machine.specs.Execute.{r1, next, fetching, rangeCount, withControls}
 use Rattle.address.specs.Operands.{operandOf}
-use Rattle.execute.specs.declared.Done.{Done}
-use Rattle.execute.specs.declared.Event.the-variants as event
-use Rattle.execute.specs.declared.Frames.{Frames}
+use Rattle.interruptions.specs.declared.Done.{Done}
+use Rattle.interruptions.specs.declared.Event.the-variants as event
+use Rattle.interruptions.specs.declared.Frames.{Frames}
+use Rattle.interruptions.specs.After.{leftBy, withRegisters, Standing, Left}
+use Rattle.interruptions.proofs.Leaving.{past-it}
 use Rattle.execute.specs.declared.Reached.{Reached}
-use Rattle.execute.specs.After.{leftBy, withRegisters, Standing, Left}
 use Rattle.execute.specs.Reaching.{Reaches, Within}
-use Rattle.execute.proofs.Reaching.{past-it, fetched-shut, fetched-open}
+use Rattle.execute.proofs.Reaching.{fetched-shut, fetched-open}
 
 -- a wrapped address of the instruction's text
 abbrev Addresses : Cpu → Text → ℕ → (Progress → ℕ) → Type 0

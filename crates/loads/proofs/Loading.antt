@@ -9,7 +9,7 @@ use Rattle.machine.specs.declared.Cpu.{Cpu}
 use Rattle.machine.specs.Words.{wordAt, wordsAt}
 use Rattle.machine.specs.Psw.{withControl}
 use Rattle.machine.specs.Execute.{withControls}
-use Rattle.execute.specs.After.{withRegisters}
+use Rattle.interruptions.specs.After.{withRegisters}
 
 -- the state once the words from word k to word n are in the registers from i on
 abbrev pub rest : Cpu → List ℕ → ℕ → List ℕ → ℕ → ℕ → Cpu

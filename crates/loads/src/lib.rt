@@ -8,10 +8,10 @@ ghost use Rattle.machine.specs.Words.{wordAt, doubleAt, wordsAt};
 ghost use Rattle.machine.specs.Record.{pswOf};
 ghost use Rattle.machine.specs.Host.{host};
 ghost use Rattle.machine.specs.Execute.{withControls, load, loadPsw, loadControl, setTimer};
-ghost use Rattle.execute.specs.After.{withRegisters};
+ghost use Rattle.interruptions.specs.After.{withRegisters};
 ghost use Rattle.execute.specs.Reaching.{Ready, Does};
-use execute::Done;
-use execute::Frames;
+use interruptions::Done;
+use interruptions::Frames;
 use machine::Cpu;
 use machine::Guest;
 use machine::Psw;
@@ -165,7 +165,7 @@ pub fn load(
     }
     let value = operand_word(storage, o.first, o.count, o.second);
     let psw = cpu::advanced(cpu.psw, text.ilc as u32);
-    execute::with_general(cpu, psw, text.first as u32 / 16 % 16, value)
+    interruptions::with_general(cpu, psw, text.first as u32 / 16 % 16, value)
 }
 
 // LOAD PSW (LPSW).
@@ -188,7 +188,7 @@ pub fn load_psw(
         return done;
     }
     let psw = operand_psw(storage, o.first, o.count, o.second, cpu.psw.system370);
-    execute::with_psw(cpu, psw)
+    interruptions::with_psw(cpu, psw)
 }
 
 // SET CPU TIMER (SPT).
@@ -212,7 +212,7 @@ pub fn set_timer(
     }
     let timer = operand_double(storage, o.first, o.count, o.second);
     let psw = cpu::advanced(cpu.psw, text.ilc as u32);
-    execute::with_timer(cpu, psw, timer)
+    interruptions::with_timer(cpu, psw, timer)
 }
 
 // LOAD CONTROL (LCTL).
@@ -239,5 +239,5 @@ pub fn load_control(
     let i = text.first as u32 / 16 % 16;
     let control = operand_controls(cpu.control, storage, o.first, o.count, o.second, i, count);
     let psw = cpu::advanced(cpu.psw, text.ilc as u32);
-    execute::with_controls(cpu, psw, control)
+    interruptions::with_controls(cpu, psw, control)
 }

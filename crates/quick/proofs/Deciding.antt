@@ -18,7 +18,7 @@ use Rattle.machine.specs.Opcodes.{lengthOf, numberOf, sameClass, both, row, opc
 use Rattle.machine.specs.Outcomes.{Outcome, Progress}
 use Rattle.machine.specs.Execute.{r1, r2, operandAddress, execute}
 use Rattle.machine.specs.Units.{intercepts, misaligned, decoded}
-use Rattle.execute.specs.After.{Left}
+use Rattle.interruptions.specs.After.{Left}
 use Rattle.text.proofs.Order.{decoded-executed}
 use Rattle.pages.specs.declared.Kept.{Kept}
 use Rattle.quick.specs.declared.Quick.{Quick}

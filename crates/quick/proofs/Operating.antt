@@ -22,12 +22,13 @@ use Rattle.machine.specs.Execute.{r1, next, fetching, storing}
 use Rattle.machine.proofs.Laws.{getD-sets-beside}
 use Rattle.address.specs.declared.Operand.the-variants.{Open}
 use Rattle.address.specs.Operands.{operandOf, inOnePage, markFrame}
-use Rattle.execute.specs.declared.Done.{Done}
-use Rattle.execute.specs.declared.Frames.{Frames}
+use Rattle.interruptions.specs.declared.Done.{Done}
+use Rattle.interruptions.specs.declared.Frames.{Frames}
+use Rattle.interruptions.specs.After.{leftBy, markText}
+use Rattle.interruptions.proofs.Leaving.{past-it}
 use Rattle.execute.specs.declared.Reached.{Reached}
-use Rattle.execute.specs.After.{leftBy, markText}
 use Rattle.execute.specs.Reaching.{markAll, Reaches}
-use Rattle.execute.proofs.Reaching.{not-both, past-it, fetched-open, stored-open}
+use Rattle.execute.proofs.Reaching.{not-both, fetched-open, stored-open}
 use Rattle.loads.proofs.Parts.{part-word}
 use Rattle.loads.proofs.Fetching.{general-loaded}
 use Rattle.guard.specs.Guarding.{Names, Alike}

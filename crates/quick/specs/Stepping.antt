@@ -14,10 +14,10 @@ use Rattle.machine.specs.Host.{Host, view}
 use Rattle.machine.specs.Opcodes.{lengthOf, opcodeOf}
 use Rattle.machine.specs.Outcomes.{Outcome, Progress}
 use Rattle.machine.specs.Units.{started, instruction}
-use Rattle.execute.specs.declared.Done.{Done}
-use Rattle.execute.specs.declared.Event.the-variants as event
-use Rattle.execute.specs.declared.Frames.{Frames}
-use Rattle.execute.specs.After.{Left}
+use Rattle.interruptions.specs.declared.Done.{Done}
+use Rattle.interruptions.specs.declared.Event.the-variants as event
+use Rattle.interruptions.specs.declared.Frames.{Frames}
+use Rattle.interruptions.specs.After.{Left}
 use Rattle.execute.specs.Reaching.{Does}
 use Rattle.text.specs.Fetching.{FetchedAs, whole}
 use Rattle.guard.specs.Guarding.{Alike}

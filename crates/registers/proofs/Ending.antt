@@ -19,12 +19,13 @@ use Rattle.machine.specs.Outcomes.{Progress}
 use Rattle.machine.specs.Interruptions.{supervisorCallAreas, codeFields, fieldsBeside, interrupt, exception}
 use Rattle.machine.specs.Execute.{r1, r2, next, finish, sumCode, withSum, summed, branch, supervisorCall}
 use Rattle.machine.proofs.Tests.{on-either-arm}
-use Rattle.execute.specs.declared.Done.{Done}
-use Rattle.execute.specs.declared.Event.the-variants as event
-use Rattle.execute.specs.declared.Frames.{Frames}
-use Rattle.execute.specs.After.{leftBy, markText, Standing, Left, codeBytes}
+use Rattle.interruptions.specs.declared.Done.{Done}
+use Rattle.interruptions.specs.declared.Event.the-variants as event
+use Rattle.interruptions.specs.declared.Frames.{Frames}
+use Rattle.interruptions.specs.After.{leftBy, markText, Standing, Left, codeBytes}
+use Rattle.interruptions.proofs.Leaving.{past-it}
 use Rattle.execute.proofs.Exceptions.{code-word, code-of-word}
-use Rattle.execute.proofs.Reaching.{past-it, left-finished}
+use Rattle.execute.proofs.Reaching.{left-finished}
 use Rattle.adder.proofs.Sums.{coded-overflow, sum-state}
 
 -- past an instruction goes the PSW alone

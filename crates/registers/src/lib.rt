@@ -9,12 +9,12 @@ ghost use Rattle.machine.specs.Psw.{conditionCode, overflowEnabled, withAddress
 ghost use Rattle.machine.specs.Host.{Host, host};
 ghost use Rattle.machine.specs.Outcomes.{Progress};
 ghost use Rattle.machine.specs.Execute.{next, loadRegister, sumCode, summed, add, subtract, selected, branchRegister, branchIndexed, supervisorCall, loadAddress};
-ghost use Rattle.execute.specs.After.{leftBy, WithKeys};
+ghost use Rattle.interruptions.specs.After.{leftBy, WithKeys};
 ghost use Rattle.execute.specs.Reaching.{Ready, Does};
-use execute::Done;
-use execute::Event;
-use execute::Frames;
-use execute::Interruption;
+use interruptions::Done;
+use interruptions::Event;
+use interruptions::Frames;
+use interruptions::Interruption;
 use machine::Cpu;
 use machine::Failure;
 use machine::Guest;
@@ -28,11 +28,11 @@ pub fn load_register(keys: &mut [u8], cpu: Cpu, text: Text, t: Frames) -> Done
     requires { ⌜ WithKeys (now keys) t × (text .ilc ≤ 3) ⌝ }
     ensures { λ r. ⌜ ((h : Host) (g : Guest) (clock : ℕ) → h .keys ≡ now (keys .entry) → Does loadRegister h g clock cpu text t r (h .storage) (now (keys .exit))) ⌝ }
 {
-    execute::mark_text(keys, t);
+    interruptions::mark_text(keys, t);
     let general = cpu.general;
     let value = general.words[(text.first as u32 % 16) as usize];
     let psw = cpu::advanced(cpu.psw, text.ilc as u32);
-    execute::with_general(cpu, psw, text.first as u32 / 16 % 16, value)
+    interruptions::with_general(cpu, psw, text.first as u32 / 16 % 16, value)
 }
 
 // LOAD ADDRESS (LA).
@@ -40,10 +40,10 @@ pub fn load_address(keys: &mut [u8], cpu: Cpu, text: Text, t: Frames) -> Done
     requires { ⌜ WithKeys (now keys) t × (text .ilc ≤ 3) ⌝ }
     ensures { λ r. ⌜ ((h : Host) (g : Guest) (clock : ℕ) → h .keys ≡ now (keys .entry) → Does loadAddress h g clock cpu text t r (h .storage) (now (keys .exit))) ⌝ }
 {
-    execute::mark_text(keys, t);
+    interruptions::mark_text(keys, t);
     let value = cpu::indexed_address(cpu.psw, cpu.general, text);
     let psw = cpu::advanced(cpu.psw, text.ilc as u32);
-    execute::with_general(cpu, psw, text.first as u32 / 16 % 16, value)
+    interruptions::with_general(cpu, psw, text.first as u32 / 16 % 16, value)
 }
 
 // A branch: the unit completed at the address where it is taken, and otherwise past the instruction.
@@ -52,9 +52,9 @@ fn branch(cpu: Cpu, text: Text, taken: bool, a: u32) -> Done
     ensures { λ r. ⌜ (r .event ≡ Event.Completed) × ((x : Progress) → x .cpu ≡ cpu → x .text ≡ text → leftBy cpu r ≡ cond taken (withAddress (x .cpu) a) (next x (x .cpu))) ⌝ }
 {
     if taken {
-        return execute::with_psw(cpu, cpu::with_address(cpu.psw, a));
+        return interruptions::with_psw(cpu, cpu::with_address(cpu.psw, a));
     }
-    execute::with_psw(cpu, cpu::advanced(cpu.psw, text.ilc as u32))
+    interruptions::with_psw(cpu, cpu::advanced(cpu.psw, text.ilc as u32))
 }
 
 // The mask in bits 8-11 of the first halfword selects the condition code.
@@ -79,7 +79,7 @@ pub fn branch_register(keys: &mut [u8], cpu: Cpu, text: Text, t: Frames) -> Done
     requires { ⌜ WithKeys (now keys) t × (text .ilc ≤ 3) ⌝ }
     ensures { λ r. ⌜ ((h : Host) (g : Guest) (clock : ℕ) → h .keys ≡ now (keys .entry) → Does branchRegister h g clock cpu text t r (h .storage) (now (keys .exit))) ⌝ }
 {
-    execute::mark_text(keys, t);
+    interruptions::mark_text(keys, t);
     let general = cpu.general;
     let a = general.words[(text.first as u32 % 16) as usize];
     let taken = selects_register(cpu.psw, text.first as u32);
@@ -91,7 +91,7 @@ pub fn branch_indexed(keys: &mut [u8], cpu: Cpu, text: Text, t: Frames) -> Done
     requires { ⌜ WithKeys (now keys) t × (text .ilc ≤ 3) ⌝ }
     ensures { λ r. ⌜ ((h : Host) (g : Guest) (clock : ℕ) → h .keys ≡ now (keys .entry) → Does branchIndexed h g clock cpu text t r (h .storage) (now (keys .exit))) ⌝ }
 {
-    execute::mark_text(keys, t);
+    interruptions::mark_text(keys, t);
     let a = cpu::indexed_address(cpu.psw, cpu.general, text);
     let taken = selects(cpu.psw, text.first as u32);
     branch(cpu, text, taken, a)
@@ -131,12 +131,12 @@ fn summed(
             code: OVERFLOW,
             address: 0,
         };
-        let done = execute::with_general(cpu, coded, i, value);
+        let done = interruptions::with_general(cpu, coded, i, value);
         return execute::exception(storage, keys, designation, guest, cpu.psw, done, text, f, t);
     }
-    execute::mark_text(keys, t);
+    interruptions::mark_text(keys, t);
     let psw = cpu::advanced(coded, text.ilc as u32);
-    execute::with_general(cpu, psw, i, value)
+    interruptions::with_general(cpu, psw, i, value)
 }
 
 // ADD (AR).
@@ -222,7 +222,7 @@ pub fn supervisor_call(
         long: false,
     };
     let psw = cpu::advanced(cpu.psw, text.ilc as u32);
-    let took = execute::take(
+    let took = interruptions::take(
         storage,
         keys,
         designation,
@@ -233,5 +233,5 @@ pub fn supervisor_call(
         i,
         t,
     );
-    execute::interrupted(cpu.psw, execute::with_psw(cpu, psw), took)
+    interruptions::interrupted(cpu.psw, interruptions::with_psw(cpu, psw), took)
 }

@@ -20,10 +20,10 @@ use Rattle.machine.specs.Addresses.{stopped}
 use Rattle.machine.specs.Outcomes.{Outcome, completed, intercepted, faulted}
 use Rattle.machine.specs.Units.{unit}
 use Rattle.machine.specs.Run.{Machine, hostOf, behindOf, markedBy, afterUnit, afterInterception, clearsT, answered, Step, goes, ends, wordAccesses, ticked, stepOf, step}
-use Rattle.execute.specs.declared.Done.{Done}
-use Rattle.execute.specs.declared.Event.{Event}
-use Rattle.execute.specs.declared.Event.the-variants.{Completed, Intercepted, Faulted}
-use Rattle.execute.specs.After.{eventOf, cpuAfter, storageAfter, keysAfter, leftBy, Left}
+use Rattle.interruptions.specs.declared.Done.{Done}
+use Rattle.interruptions.specs.declared.Event.{Event}
+use Rattle.interruptions.specs.declared.Event.the-variants.{Completed, Intercepted, Faulted}
+use Rattle.interruptions.specs.After.{eventOf, cpuAfter, storageAfter, keysAfter, leftBy, Left}
 use Rattle.execute.proofs.Reaching.{not-both}
 use Rattle.charging.specs.Ending.{isCompleted, ofXa}
 use Rattle.run.specs.Running.{timedAt}

@@ -23,10 +23,10 @@ use Rattle.machine.specs.Record.{Bounded}
 use Rattle.machine.proofs.Runs.{more}
 use Rattle.machine.proofs.Timer.{asked-for}
 use Rattle.laws.proofs.Lens.{cpu-of-withCpu, withCpu-withCpu}
+use Rattle.interruptions.specs.declared.Done.{Done}
+use Rattle.interruptions.specs.declared.Event.{Event}
+use Rattle.interruptions.specs.After.{eventOf, cpuAfter, storageAfter, keysAfter, leftBy, Left}
 use Rattle.execute.proofs.Reaching.{not-both}
-use Rattle.execute.specs.declared.Done.{Done}
-use Rattle.execute.specs.declared.Event.{Event}
-use Rattle.execute.specs.After.{eventOf, cpuAfter, storageAfter, keysAfter, leftBy, Left}
 use Rattle.charging.specs.Ending.{isCompleted, endOf, ofXa}
 use Rattle.charging.proofs.States.{record-of-xa}
 use Rattle.run.specs.Running.{plainAt, Remains}

@@ -18,7 +18,7 @@ use Rattle.machine.specs.Units.{unit}
 use Rattle.machine.specs.Run.{Machine, goes, Ended as Run, run}
 use Rattle.machine.specs.Record.{Bounded}
 use Rattle.machine.proofs.Runs.{more}
-use Rattle.execute.specs.After.{leftBy, Left}
+use Rattle.interruptions.specs.After.{leftBy, Left}
 use Rattle.pages.specs.declared.Kept.{Kept}
 use Rattle.pages.specs.Keeping.{Holds, Inside}
 use Rattle.pages.proofs.Holding.{holds-alike, holds-marked, holds-state}

@@ -18,10 +18,10 @@ use Rattle.machine.specs.Units.{unit}
 use Rattle.machine.specs.Time.{clockAfter, charged}
 use Rattle.machine.specs.Run.{hostOf, wordAccesses, goes, ends, step, Ended as Run, run}
 use Rattle.machine.proofs.Runs.{more}
-use Rattle.execute.specs.declared.Done.{Done}
-use Rattle.execute.specs.declared.Event.{Event}
-use Rattle.execute.specs.declared.Event.the-variants.{Completed, Intercepted, Faulted}
-use Rattle.execute.specs.After.{eventOf, leftBy, Left}
+use Rattle.interruptions.specs.declared.Done.{Done}
+use Rattle.interruptions.specs.declared.Event.{Event}
+use Rattle.interruptions.specs.declared.Event.the-variants.{Completed, Intercepted, Faulted}
+use Rattle.interruptions.specs.After.{eventOf, leftBy, Left}
 use Rattle.execute.proofs.Reaching.{not-both}
 use Rattle.interval.specs.declared.Word.the-variants as word
 use Rattle.ahead.specs.Completing.{isComplete, WordShut}

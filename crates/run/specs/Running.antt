@@ -16,7 +16,7 @@ use Rattle.machine.specs.Units.{unit}
 use Rattle.machine.specs.Run.{Machine, Ended as Run, run}
 use Rattle.machine.specs.Record.{Bounded}
 use Rattle.machine.proofs.Runs.{more}
-use Rattle.execute.specs.After.{Left}
+use Rattle.interruptions.specs.After.{Left}
 use Rattle.pages.specs.declared.Kept.{Kept}
 use Rattle.pages.specs.Keeping.{Keeps}
 use Rattle.quick.specs.declared.Quick.{Quick}

@@ -15,13 +15,14 @@ use Rattle.machine.specs.Host.{Host}
 use Rattle.machine.specs.Outcomes.{Outcome, Progress}
 use Rattle.machine.specs.Execute.{next, storing}
 use Rattle.address.specs.Operands.{operandOf}
-use Rattle.execute.specs.declared.Done.{Done}
-use Rattle.execute.specs.declared.Event.the-variants as event
-use Rattle.execute.specs.declared.Frames.{Frames}
+use Rattle.interruptions.specs.declared.Done.{Done}
+use Rattle.interruptions.specs.declared.Event.the-variants as event
+use Rattle.interruptions.specs.declared.Frames.{Frames}
+use Rattle.interruptions.specs.After.{leftBy, Standing, Left}
+use Rattle.interruptions.proofs.Leaving.{past-it}
 use Rattle.execute.specs.declared.Reached.{Reached}
-use Rattle.execute.specs.After.{leftBy, Standing, Left}
 use Rattle.execute.specs.Reaching.{Reaches, Does}
-use Rattle.execute.proofs.Reaching.{progressOf, at-standing, past-it, stored-shut, stored-open}
+use Rattle.execute.proofs.Reaching.{progressOf, at-standing, stored-shut, stored-open}
 
 -- the code does what an outcome says where it does so for the units in progress that are made of what it holds
 pub does : (o : Progress → Outcome) (h : Host) {g : Guest} {clock : ℕ} {c : Cpu} {text : Text} {t : Frames} {d : Done} {storage keys : List ℕ}

@@ -9,8 +9,8 @@ ghost use Rattle.machine.specs.Words.{wordsBytes};
 ghost use Rattle.machine.specs.Host.{host};
 ghost use Rattle.machine.specs.Execute.{controlsFrom, store, storeControl, storeClock, storeTimer};
 ghost use Rattle.execute.specs.Reaching.{Ready, Does};
-use execute::Done;
-use execute::Frames;
+use interruptions::Done;
+use interruptions::Frames;
 use machine::Cpu;
 use machine::Guest;
 use machine::Registers;
@@ -39,7 +39,7 @@ pub fn store(
     let value = general.words[(text.first as u32 / 16 % 16) as usize];
     writer::put_word_operand(storage, value, word.first, word.count, word.second);
     let psw = cpu::advanced(cpu.psw, text.ilc as u32);
-    execute::with_psw(cpu, psw)
+    interruptions::with_psw(cpu, psw)
 }
 
 // STORE CPU TIMER (STPT).
@@ -63,7 +63,7 @@ pub fn store_timer(
     }
     writer::put_double_operand(storage, cpu.timer, o.first, o.count, o.second);
     let psw = cpu::advanced(cpu.psw, text.ilc as u32);
-    execute::with_psw(cpu, psw)
+    interruptions::with_psw(cpu, psw)
 }
 
 // STORE CLOCK (STCK).
@@ -89,7 +89,7 @@ pub fn store_clock(
     let value = cpu::guest_clock(guest.epoch, clock);
     writer::put_double_operand(storage, value, o.first, o.count, o.second);
     let psw = cpu::advanced(cpu::with_condition_code(cpu.psw, 0), text.ilc as u32);
-    execute::with_psw(cpu, psw)
+    interruptions::with_psw(cpu, psw)
 }
 
 // The bytes of n control registers, from i on and through 15 to 0, written from the start on.
@@ -152,5 +152,5 @@ pub fn store_control(
     let i = text.first as u32 / 16 % 16;
     put_control_operand(storage, cpu.control, i, k, o.first, o.count, o.second);
     let psw = cpu::advanced(cpu.psw, text.ilc as u32);
-    execute::with_psw(cpu, psw)
+    interruptions::with_psw(cpu, psw)
 }

@@ -23,8 +23,8 @@ use Rattle.address.specs.declared.Operand.the-variants.{Open, Shut}
 use Rattle.address.specs.Operands.{operandOf, markFrame}
 use Rattle.address.proofs.Operands.{operand-open}
 use Rattle.address.proofs.Reached.{operand-code, operand-keys, operand-offset, operand-further, operand-in-page}
-use Rattle.execute.specs.declared.Frames.{Frames}
-use Rattle.execute.specs.After.{WithKeys, markText}
+use Rattle.interruptions.specs.declared.Frames.{Frames}
+use Rattle.interruptions.specs.After.{WithKeys, markText}
 use Rattle.text.specs.Fetching.{Halfword, EndsIn, noFrames, oneFrame, andFrame}
 
 pub wrap-below : (c : Cpu) (a : ℕ) → wrap c a < 2147483648

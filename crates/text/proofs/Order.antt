@@ -27,12 +27,11 @@ use Rattle.cpu.specs.declared.Before.the-variants.{Ends, Malformed, Instruction
 use Rattle.cpu.specs.Before.{unitAfter}
 use Rattle.text.specs.declared.Reading.{Reading}
 use Rattle.text.specs.Fetching.{FetchedAs}
-use Rattle.execute.specs.declared.Done.{Done}
-use Rattle.execute.specs.declared.Event.the-variants as event
-use Rattle.execute.specs.declared.Frames.{Frames}
-use Rattle.execute.specs.After.{leftBy, Standing, Left}
-use Rattle.execute.proofs.Exceptions.{left-intercepted}
-use Rattle.execute.proofs.Reaching.{past-it}
+use Rattle.interruptions.specs.declared.Done.{Done}
+use Rattle.interruptions.specs.declared.Event.the-variants as event
+use Rattle.interruptions.specs.declared.Frames.{Frames}
+use Rattle.interruptions.specs.After.{leftBy, Standing, Left}
+use Rattle.interruptions.proofs.Leaving.{left-intercepted, past-it}
 
 module _ (h : Host) (x : Progress) {g : Guest} {clock : ℕ} {c : Cpu} {text : Text} {t : Frames} (standing : Standing h x g clock c text t) where
   -- code 4

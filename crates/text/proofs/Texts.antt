@@ -33,8 +33,8 @@ use Rattle.address.specs.Touching.{seen}
 use Rattle.address.specs.Operands.{operandOf, markFrame}
 use Rattle.address.proofs.Operands.{operand-shut, operand-open}
 use Rattle.address.proofs.Seen.{operand-seen}
-use Rattle.execute.specs.declared.Frames.{Frames}
-use Rattle.execute.specs.After.{Standing, markText}
+use Rattle.interruptions.specs.declared.Frames.{Frames}
+use Rattle.interruptions.specs.After.{Standing, markText}
 use Rattle.text.specs.Fetching.{FetchedAs, Fetches, Halfword, noFrames, cutShort, whole}
 use Rattle.text.specs.declared.Reading.{Reading}
 use Rattle.text.proofs.Halfwords.{wrapped, even-address}

@@ -21,8 +21,8 @@ use Rattle.machine.specs.Interruptions.{exception}
 use Rattle.machine.specs.Units.{decoded}
 use Rattle.address.specs.declared.Operand.{Operand}
 use Rattle.address.specs.Operands.{operandOf}
-use Rattle.execute.specs.declared.Frames.{Frames}
-use Rattle.execute.specs.After.{WithKeys, Standing}
+use Rattle.interruptions.specs.declared.Frames.{Frames}
+use Rattle.interruptions.specs.After.{WithKeys, Standing}
 use Rattle.text.specs.declared.Fetched.{Fetched}
 use Rattle.text.specs.declared.Reading.{Reading}
 

@@ -13,10 +13,10 @@ ghost use Rattle.machine.specs.Units.{secondText, thirdText, fetchThird, fetchS
 ghost use Rattle.storage.specs.Entered.{Entered};
 ghost use Rattle.address.specs.Touching.{seen};
 ghost use Rattle.address.specs.Operands.{operandOf};
-ghost use Rattle.execute.specs.After.{WithKeys};
+ghost use Rattle.interruptions.specs.After.{WithKeys};
 ghost use Rattle.text.specs.Fetching.{FetchedAs, Fetches, Usable, Halfword, noText, noFrames, oneFrame, EndsIn, cutShort, whole, unfetched};
 use address::Operand;
-use execute::Frames;
+use interruptions::Frames;
 use machine::Class;
 use machine::Failure;
 use machine::Guest;

@@ -18,10 +18,10 @@ use Rattle.machine.specs.Units.{decoded, started, instruction}
 use Rattle.cpu.specs.declared.Before.{Before}
 use Rattle.cpu.specs.declared.Before.the-variants.{Instruction}
 use Rattle.cpu.specs.Before.{unitAfter}
-use Rattle.execute.specs.declared.Done.{Done}
-use Rattle.execute.specs.declared.Event.the-variants as event
-use Rattle.execute.specs.declared.Frames.{Frames}
-use Rattle.execute.specs.After.{eventOf, storageAfter, keysAfter, Standing, Left}
+use Rattle.interruptions.specs.declared.Done.{Done}
+use Rattle.interruptions.specs.declared.Event.the-variants as event
+use Rattle.interruptions.specs.declared.Frames.{Frames}
+use Rattle.interruptions.specs.After.{eventOf, storageAfter, keysAfter, Standing, Left}
 use Rattle.execute.proofs.Reaching.{not-both}
 use Rattle.text.specs.declared.Reading.{Reading}
 use Rattle.text.specs.Fetching.{FetchedAs}

@@ -17,8 +17,8 @@ use Rattle.machine.specs.Units.{decoded, started}
 use Rattle.cpu.specs.declared.Before.{Before}
 use Rattle.cpu.specs.declared.Before.the-variants.{Ends, Malformed}
 use Rattle.cpu.specs.Before.{unitAfter}
-use Rattle.execute.specs.declared.Frames.{Frames}
-use Rattle.execute.specs.After.{Standing}
+use Rattle.interruptions.specs.declared.Frames.{Frames}
+use Rattle.interruptions.specs.After.{Standing}
 use Rattle.text.specs.declared.Reading.{Reading}
 use Rattle.text.specs.Fetching.{FetchedAs}
 use Rattle.ahead.specs.Completing.{isComplete, WordShut}

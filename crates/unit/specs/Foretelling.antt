@@ -10,9 +10,9 @@ use Rattle.machine.specs.declared.Text.{Text}
 use Rattle.machine.specs.Host.{Host}
 use Rattle.machine.specs.Outcomes.{Outcome, Progress}
 use Rattle.ahead.specs.Completing.{isComplete, WordShut}
-use Rattle.execute.specs.declared.Done.{Done}
-use Rattle.execute.specs.declared.Frames.{Frames}
-use Rattle.execute.specs.After.{eventOf, cpuAfter, leftBy, Standing, Left}
+use Rattle.interruptions.specs.declared.Done.{Done}
+use Rattle.interruptions.specs.declared.Frames.{Frames}
+use Rattle.interruptions.specs.After.{eventOf, cpuAfter, leftBy, Standing, Left}
 
 -- how the unit ends, with nothing stored or marked; the state too where it does not complete
 pub record Foretold (h : Host) (c : Cpu) (o : Outcome) (d : Done) (storage keys : List ℕ) : Type 0 where

@@ -20,9 +20,9 @@ ghost use Rattle.execute.specs.Reaching.{Ready, Does};
 ghost use Rattle.unit.specs.Testing.{WithOperand, afterTests, exceptionCode};
 ghost use Rattle.unit.specs.Foretelling.{Comes, Tells};
 use cpu::Before;
-use execute::Done;
-use execute::Event;
-use execute::Frames;
+use interruptions::Done;
+use interruptions::Event;
+use interruptions::Frames;
 use machine::Class;
 use machine::Cpu;
 use machine::Guest;
@@ -67,9 +67,9 @@ fn intercept_instruction(cpu: Cpu, text: Text) -> Done
     ensures { λ r. ⌜ ((h : Host) (g : Guest) (clock : ℕ) (t : Frames) → Does interceptInstruction h g clock cpu text t r (h .storage) (h .keys)) ⌝ }
 {
     let psw = cpu::advanced(cpu.psw, text.ilc as u32);
-    execute::ended_with(
+    interruptions::ended_with(
         Event::Intercepted(Reason::Instruction(text)),
-        execute::with_psw(cpu, cpu.psw),
+        interruptions::with_psw(cpu, cpu.psw),
         psw,
     )
 }
@@ -236,7 +236,7 @@ fn cleared(
     ensures { λ r. ⌜ Tells shut (execute class) (host designation (now (storage .entry)) (now (keys .entry))) guest clock cpu text t r (now (storage .exit)) (now (keys .exit)) ⌝ }
 {
     if foretells(shut, class, storage, keys, designation, guest, cpu, text) {
-        return execute::with_psw(cpu, cpu.psw);
+        return interruptions::with_psw(cpu, cpu.psw);
     }
     perform(
         class,
@@ -343,9 +343,9 @@ fn unit_after(
         (unitAfter guest clock (view guest (host designation (now (storage .entry)) (now (keys .entry)))) cpu before) r (now (storage .exit)) (now (keys .exit)) ⌝ }
 {
     match before {
-        Before::Ends(reason) => execute::ended_with(
+        Before::Ends(reason) => interruptions::ended_with(
             Event::Intercepted(reason),
-            execute::with_psw(cpu, cpu.psw),
+            interruptions::with_psw(cpu, cpu.psw),
             cpu.psw,
         ),
         Before::Malformed => {

@@ -4,7 +4,7 @@ use borrow.Author.Needs.{needs}
 use lib.ListN.{getD}
 use mir.Syntax.{w32}
 use mir.Val.{Fits}
-use Rattle.execute.specs.After.{leftBy}
+use Rattle.interruptions.specs.After.{leftBy}
 use Rattle.charging.proofs.state_after.Statement.{statement}
 use Rattle.charging.proofs.state_after.Tie as tie
 

@@ -2,7 +2,7 @@
 -- Assumes nothing.
 use Rattle.machine.specs.Host.{host}
 use Rattle.machine.specs.Psw.{withPsw}
-use Rattle.execute.specs.After.{leftBy}
+use Rattle.interruptions.specs.After.{leftBy}
 use Rattle.execute.proofs.Exceptions.{exception-of}
 use borrow.Author.Needs.{needs}
 use Rattle.execute.proofs.excepted.Statement.{statement}

@@ -5,8 +5,8 @@ use borrow.Author.Tests.{eq-eqb, ne-eqb}
 use borrow.Author.Needs.{needs}
 use Rattle.machine.specs.Psw.{withPsw}
 use Rattle.machine.specs.Host.{host}
-use Rattle.execute.specs.After.{leftBy}
-use Rattle.execute.proofs.Leaving.{left-taken, old-replaced}
+use Rattle.interruptions.specs.After.{leftBy}
+use Rattle.interruptions.proofs.Leaving.{left-taken, old-replaced}
 use Rattle.execute.proofs.Exceptions.{excepted-host, excepted-operation, excepted-program, excepted-interruption}
 use Rattle.execute.proofs.exception.Statement.{statement}
 use Rattle.execute.proofs.exception.Tie as tie

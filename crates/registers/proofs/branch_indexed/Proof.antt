@@ -3,7 +3,7 @@
 use borrow.Author.Needs.{needs}
 use mathlib.Core.Path.{_≡_, ap, sym, subst, _∙_}
 use Rattle.registers.proofs.Ending.{branched}
-use Rattle.execute.specs.After.{markText}
+use Rattle.interruptions.specs.After.{markText}
 use Rattle.machine.specs.Execute.{branchIndexed, selected}
 use Rattle.machine.specs.Psw.{conditionCode}
 use Rattle.machine.specs.Words.{bits}

@@ -5,7 +5,7 @@ use lib.Dec.{eqb}
 use borrow.Author.Needs.{needs}
 use mathlib.Core.Path.{_≡_, ap, sym, subst, _∙_}
 use Rattle.registers.proofs.Ending.{second-register, branched}
-use Rattle.execute.specs.After.{markText}
+use Rattle.interruptions.specs.After.{markText}
 use Rattle.machine.specs.Execute.{branchRegister, selected}
 use Rattle.machine.specs.Psw.{conditionCode}
 use Rattle.machine.specs.Words.{bits}

@@ -5,7 +5,7 @@ use mathlib.Core.Path.{refl, sym, _∙_}
 use Rattle.machine.specs.Execute.{sumCode}
 use Rattle.machine.specs.Host.{host}
 use Rattle.machine.specs.Psw.{withConditionCode}
-use Rattle.execute.specs.After.{leftBy}
+use Rattle.interruptions.specs.After.{leftBy}
 use Rattle.adder.proofs.Sums.{sum-state}
 use Rattle.registers.proofs.Ending.{sum-interrupts, summed-interrupts, summed-ends}
 use Rattle.registers.proofs.summed.Statement.{statement}

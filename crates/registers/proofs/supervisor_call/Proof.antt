@@ -6,8 +6,8 @@ use mathlib.Core.Path.{refl, ap, _∙_}
 use borrow.Author.Needs.{needs}
 use Rattle.machine.specs.Psw.{withPsw}
 use Rattle.machine.specs.Host.{host}
-use Rattle.execute.specs.After.{cpuBy}
-use Rattle.execute.proofs.Leaving.{left-taken}
+use Rattle.interruptions.specs.After.{cpuBy}
+use Rattle.interruptions.proofs.Leaving.{left-taken}
 use Rattle.execute.proofs.Exceptions.{ilc-of-word}
 use Rattle.registers.proofs.Ending.{supervisor-called}
 use Rattle.registers.proofs.supervisor_call.Statement.{statement}

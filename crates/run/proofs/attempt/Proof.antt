@@ -3,7 +3,7 @@
 use native.Mathlib.Omega.{arith}
 use mathlib.Core.Path.{refl, sym, subst}
 use Rattle.machine.specs.Host.{view}
-use Rattle.execute.specs.After.{Left}
+use Rattle.interruptions.specs.After.{Left}
 use Rattle.quick.specs.Stepping.{doneOf}
 use borrow.Author.Needs.{needs}
 use Rattle.run.proofs.attempt.Statement.{statement}

@@ -15,7 +15,7 @@ use Rattle.machine.specs.Interval.{period, residueAfter}
 use Rattle.machine.specs.Time.{clockAfter, charged}
 use Rattle.machine.specs.Units.{unit}
 use Rattle.machine.specs.Run.{goes}
-use Rattle.execute.specs.After.{leftBy}
+use Rattle.interruptions.specs.After.{leftBy}
 use Rattle.charging.specs.Ending.{ofXa}
 use Rattle.charging.proofs.Dues.{reaches}
 use Rattle.charging.proofs.States.{of-mode, charged-mode}

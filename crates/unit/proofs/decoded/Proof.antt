@@ -10,8 +10,8 @@ use Rattle.machine.specs.declared.Opcode.{Opcode}
 use Rattle.machine.specs.Host.{Host, host}
 use Rattle.machine.specs.Outcomes.{Progress}
 use Rattle.machine.specs.Units.{decoded}
-use Rattle.execute.specs.declared.Done.{Done}
-use Rattle.execute.specs.After.{Left}
+use Rattle.interruptions.specs.declared.Done.{Done}
+use Rattle.interruptions.specs.After.{Left}
 use Rattle.text.proofs.Order.{by-failure}
 use Rattle.unit.specs.declared.Tests.{Tests}
 use Rattle.unit.specs.Testing.{afterTests, exceptionCode}

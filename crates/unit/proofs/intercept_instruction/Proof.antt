@@ -2,7 +2,7 @@
 -- Assumes nothing.
 use mathlib.Core.Path.{refl, ap, _∙_}
 use Rattle.machine.specs.Psw.{withPsw}
-use Rattle.execute.specs.After.{leftBy}
+use Rattle.interruptions.specs.After.{leftBy}
 use Rattle.text.proofs.Order.{instruction-intercepted}
 use borrow.Author.Needs.{needs}
 use Rattle.unit.proofs.intercept_instruction.Statement.{statement}

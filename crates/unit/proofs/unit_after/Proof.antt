@@ -6,7 +6,7 @@ use mathlib.Core.Path.{ap, _∙_}
 use Rattle.machine.specs.Host.{host, view}
 use Rattle.machine.specs.Units.{started}
 use Rattle.machine.specs.Psw.{withPsw}
-use Rattle.execute.specs.After.{leftBy}
+use Rattle.interruptions.specs.After.{leftBy}
 use Rattle.text.proofs.Texts.{standing-started}
 use Rattle.text.proofs.Order.{after-ends, after-malformed}
 use Rattle.unit.proofs.Order.{list-ends, list-malformed}

@@ -1,11 +1,11 @@
--- `execute::with_general` meets its contract.
+-- `interruptions::with_general` meets its contract.
 -- Assumes nothing.
 use mathlib.Core.Path.{refl}
 use borrow.Author.Needs.{needs}
 use Rattle.machine.specs.Psw.{withPsw, withGeneral}
-use Rattle.execute.specs.After.{leftBy}
-use Rattle.execute.proofs.with_general.Statement.{statement}
-use Rattle.execute.proofs.with_general.Tie as tie
+use Rattle.interruptions.specs.After.{leftBy}
+use Rattle.interruptions.proofs.with_general.Statement.{statement}
+use Rattle.interruptions.proofs.with_general.Tie as tie
 
 returns : tie.Need-returns
 unfolding leftBy withPsw withGeneral

@@ -1,14 +1,14 @@
--- `execute::interrupt_at` meets its contract.
+-- `interruptions::interrupt_at` meets its contract.
 -- Assumes nothing.
 use mathlib.Core.Path.{ap, sym, subst, _∙_}
 use borrow.Author.Needs.{needs}
 use Rattle.machine.specs.declared.Walk.the-variants.{Page}
 use Rattle.machine.specs.Host.{referenced, changed}
 use Rattle.address.specs.Operands.{markFrame}
-use Rattle.execute.specs.After.{markText, Keyed}
-use Rattle.execute.proofs.Leaving.{interrupted-failed, interrupted-protected, interrupted-open}
-use Rattle.execute.proofs.interrupt_at.Statement.{statement}
-use Rattle.execute.proofs.interrupt_at.Tie as tie
+use Rattle.interruptions.specs.After.{markText, Keyed}
+use Rattle.interruptions.proofs.Leaving.{interrupted-failed, interrupted-protected, interrupted-open}
+use Rattle.interruptions.proofs.interrupt_at.Statement.{statement}
+use Rattle.interruptions.proofs.interrupt_at.Tie as tie
 
 enum-known-w : tie.Need-enum-known-w
 enum-known-w c = search needs

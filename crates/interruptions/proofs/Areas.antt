@@ -1,7 +1,7 @@
 -- An interruption by page: the areas of every class stand in the prefix page, so one host page lies behind them all.
 -- Assumes nothing.
 use Prim.Native.Nat.{ℕ, zero, suc, _+_, _*_, _/_, _≤_, _<_}
-use native.Mathlib.Nat.{add-assoc}
+use native.Mathlib.Nat.{suc-inj, add-assoc}
 use native.Mathlib.Omega.{arith}
 use mathlib.Core.Path.{_≡_, refl, ap, sym, _∙_}
 use mathlib.Core.Bool.{Bool, true, false, _&&_}
@@ -26,8 +26,14 @@ use Rattle.machine.specs.Run.{markedBy}
 use Rattle.laws.proofs.PageBytes.{bytesFrom, joined, accesses-append, stored-append, marked-append, withBytes-append, places-append, length-bytesFrom, word-of-bytesFrom, stored-in-page, marked-in-page, referenced-twice, changed-twice}
 use Rattle.laws.proofs.Pages.{backing-in-page}
 use Rattle.address.specs.Operands.{markFrame}
-use Rattle.execute.specs.After.{eventOf, cpuAfter, storageAfter, keysAfter, Completes}
-use Rattle.execute.proofs.Operations.{places-withBytes}
+use Rattle.interruptions.specs.After.{eventOf, cpuAfter, storageAfter, keysAfter, Completes}
+
+-- bytes to be stored stay at their places
+pub places-withBytes : (ls : List Located) (bytes : List ℕ) → length ls ≡ length bytes → places (withBytes ls bytes) ≡ places ls
+unfolding withBytes
+places-withBytes [] bytes e = refl
+places-withBytes (l ∷ ls) [] e = absurd (omega arith)
+places-withBytes (l ∷ ls) (b ∷ bytes) e = ap (λ more. l .absolute ∷ more) (places-withBytes ls bytes (suc-inj e))
 
 psw-of-bytesFrom : (system370 : Bool) (s : List ℕ) (a q : ℕ) → pswOf system370 (bytesOf (bytesFrom s a q 8)) 0 ≡ pswOf system370 s q
 unfolding pswOf bytesFrom wordAt

@@ -1,12 +1,12 @@
--- `execute::mark_text` meets its contract.
+-- `interruptions::mark_text` meets its contract.
 -- Assumes nothing.
 use native.Mathlib.Omega.{arith}
 use borrow.Author.Tests.{ne-eqb}
 use borrow.Author.Needs.{needs}
 use Rattle.machine.proofs.Tests.{tests}
-use Rattle.execute.specs.After.{markText}
-use Rattle.execute.proofs.mark_text.Statement.{statement}
-use Rattle.execute.proofs.mark_text.Tie as tie
+use Rattle.interruptions.specs.After.{markText}
+use Rattle.interruptions.proofs.mark_text.Statement.{statement}
+use Rattle.interruptions.proofs.mark_text.Tie as tie
 
 returns : tie.Need-returns
 unfolding markText

@@ -1,4 +1,4 @@
--- `execute::put_areas` meets its contract.
+-- `interruptions::put_areas` meets its contract.
 -- Assumes nothing.
 use Prim.Native.Nat.{_+_}
 use mathlib.Core.Path.{refl, ap, sym, _∙_}
@@ -8,9 +8,9 @@ use Rattle.machine.specs.Record.{pswBytes}
 use Rattle.machine.specs.Psw.{oldPsw}
 use Rattle.machine.specs.Interruptions.{fieldsBeside}
 use Rattle.machine.specs.Words.{wordBytes}
-use Rattle.execute.proofs.Words.{two-words}
-use Rattle.execute.proofs.put_areas.Statement.{statement}
-use Rattle.execute.proofs.put_areas.Tie as tie
+use Rattle.interruptions.proofs.Words.{two-words}
+use Rattle.interruptions.proofs.put_areas.Statement.{statement}
+use Rattle.interruptions.proofs.put_areas.Tie as tie
 
 basic-control-requires : tie.Need-basic-control-requires
 basic-control-requires c κs = search needs

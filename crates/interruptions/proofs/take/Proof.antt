@@ -1,13 +1,13 @@
--- `execute::take` meets its contract.
+-- `interruptions::take` meets its contract.
 -- Assumes nothing.
 use Prim.Native.Nat.{_+_, _*_}
 use native.Mathlib.Omega.{arith}
 use mathlib.Core.Path.{refl, ap, sym, _∙_}
 use borrow.Author.Needs.{needs}
 use Rattle.machine.specs.Host.{host, backing, hostPage}
-use Rattle.execute.proofs.Leaving.{keyed-found}
-use Rattle.execute.proofs.take.Statement.{statement}
-use Rattle.execute.proofs.take.Tie as tie
+use Rattle.interruptions.proofs.Leaving.{keyed-found}
+use Rattle.interruptions.proofs.take.Statement.{statement}
+use Rattle.interruptions.proofs.take.Tie as tie
 
 mul-absolute : tie.Need-mul-absolute
 mul-absolute c = search needs

@@ -19,13 +19,13 @@ use Rattle.machine.specs.Outcomes.{Outcome, completed, intercepted, faulted, Pr
 use Rattle.machine.specs.Interruptions.{Areas, fieldsBeside, interrupt}
 use Rattle.machine.specs.Run.{markedBy}
 use Rattle.address.specs.Operands.{markFrame}
-use Rattle.execute.specs.declared.Done.{Done}
-use Rattle.execute.specs.declared.Event.{Event}
-use Rattle.execute.specs.declared.Event.the-variants as event
-use Rattle.execute.specs.declared.Frames.{Frames}
-use Rattle.execute.specs.declared.Interruption.{Interruption}
-use Rattle.execute.specs.declared.Took.{Took}
-use Rattle.execute.specs.declared.Took.the-variants.{Shut, Open}
+use Rattle.interruptions.specs.declared.Done.{Done}
+use Rattle.interruptions.specs.declared.Event.{Event}
+use Rattle.interruptions.specs.declared.Event.the-variants as event
+use Rattle.interruptions.specs.declared.Frames.{Frames}
+use Rattle.interruptions.specs.declared.Interruption.{Interruption}
+use Rattle.interruptions.specs.declared.Took.{Took}
+use Rattle.interruptions.specs.declared.Took.the-variants.{Shut, Open}
 
 unfoldable pub eventOf : Outcome → Event
 eventOf (completed c e) = event.Completed

@@ -1,11 +1,11 @@
--- `execute::interrupted` meets its contract.
+-- `interruptions::interrupted` meets its contract.
 -- Assumes nothing.
 use mathlib.Core.Path.{ap}
 use borrow.Author.Needs.{needs}
 use Rattle.machine.specs.Psw.{withPsw}
-use Rattle.execute.specs.After.{leftBy, eventBy, cpuBy}
-use Rattle.execute.proofs.interrupted.Statement.{statement}
-use Rattle.execute.proofs.interrupted.Tie as tie
+use Rattle.interruptions.specs.After.{leftBy, eventBy, cpuBy}
+use Rattle.interruptions.proofs.interrupted.Statement.{statement}
+use Rattle.interruptions.proofs.interrupted.Tie as tie
 
 enum-known-took : tie.Need-enum-known-took
 enum-known-took c = search needs

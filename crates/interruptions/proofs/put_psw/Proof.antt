@@ -1,13 +1,13 @@
--- `execute::put_psw` meets its contract.
+-- `interruptions::put_psw` meets its contract.
 -- Assumes nothing.
 use Prim.Native.Nat.{_+_}
 use mathlib.Core.Path.{refl, ap, _∙_}
 use lib.Seq.{sets}
 use borrow.Author.Needs.{needs}
 use Rattle.machine.specs.Words.{wordBytes}
-use Rattle.execute.proofs.Words.{two-words}
-use Rattle.execute.proofs.put_psw.Statement.{statement}
-use Rattle.execute.proofs.put_psw.Tie as tie
+use Rattle.interruptions.proofs.Words.{two-words}
+use Rattle.interruptions.proofs.put_psw.Statement.{statement}
+use Rattle.interruptions.proofs.put_psw.Tie as tie
 
 put-word-requires : tie.Need-put-word-requires
 put-word-requires c κs = search needs

@@ -12,31 +12,33 @@ use Rattle.machine.specs.declared.Cpu.{Cpu}
 use Rattle.machine.specs.declared.Failure.{Failure}
 use Rattle.machine.specs.declared.Guest.{Guest}
 use Rattle.machine.specs.declared.Psw.{Psw}
+use Rattle.machine.specs.declared.Reason.{Reason}
 use Rattle.machine.specs.declared.Registers.{Registers}
 use Rattle.machine.specs.declared.Text.{Text}
 use Rattle.machine.specs.declared.Walk.{Walk}
 use Rattle.machine.specs.declared.Walk.the-variants.{Page, Failed}
 use Rattle.machine.specs.Record.{pswOf, pswBytes}
-use Rattle.machine.specs.Psw.{basicControl, withPsw, oldPsw}
+use Rattle.machine.specs.Psw.{basicControl, withPsw, withAddress, advanced, oldPsw}
 use Rattle.machine.specs.Refusals.{framesOf}
 use Rattle.machine.specs.Failures.{protection, hostFault}
 use Rattle.machine.specs.Host.{Host, host, hostVirtual, backing, view, referenced, changed, marked}
-use Rattle.machine.specs.Outcomes.{Outcome, faulted, Progress}
+use Rattle.machine.specs.Outcomes.{Outcome, intercepted, faulted, Progress}
 use Rattle.machine.specs.Interruptions.{fieldsBeside, interrupt}
+use Rattle.machine.specs.Execute.{next}
 use Rattle.machine.proofs.Tests.{on-either-arm}
 use Rattle.address.specs.Touching.{Inside, Backed}
 use Rattle.address.specs.Operands.{markFrame}
 use Rattle.address.proofs.Touches.{inside-backing, backed-backing}
 use Rattle.writer.proofs.Parts.{two-in-part}
-use Rattle.execute.specs.declared.Done.{Done}
-use Rattle.execute.specs.declared.Event.{Event}
-use Rattle.execute.specs.declared.Event.the-variants as event
-use Rattle.execute.specs.declared.Frames.{Frames}
-use Rattle.execute.specs.declared.Interruption.{Interruption}
-use Rattle.execute.specs.declared.Took.{Took}
-use Rattle.execute.specs.declared.Took.the-variants.{Shut, Open}
-use Rattle.execute.specs.After.{eventOf, cpuAfter, storageAfter, keysAfter, Completes, leftBy, markText, Standing, Left, codeBytes, Before, areasOf, ilcOf, codeOf, fieldsOf, InPrefixPage, Keyed, eventBy, cpuBy, Taken}
-use Rattle.execute.proofs.Areas.{interrupt-failed, interrupt-protected, interrupt-open}
+use Rattle.interruptions.specs.declared.Done.{Done}
+use Rattle.interruptions.specs.declared.Event.{Event}
+use Rattle.interruptions.specs.declared.Event.the-variants as event
+use Rattle.interruptions.specs.declared.Frames.{Frames}
+use Rattle.interruptions.specs.declared.Interruption.{Interruption}
+use Rattle.interruptions.specs.declared.Took.{Took}
+use Rattle.interruptions.specs.declared.Took.the-variants.{Shut, Open}
+use Rattle.interruptions.specs.After.{eventOf, cpuAfter, storageAfter, keysAfter, Completes, leftBy, markText, Standing, Left, codeBytes, Before, areasOf, ilcOf, codeOf, fieldsOf, InPrefixPage, Keyed, eventBy, cpuBy, Taken}
+use Rattle.interruptions.proofs.Areas.{interrupt-failed, interrupt-protected, interrupt-open}
 
 -- with no register set, the state before the unit is left
 pub unchanged : (c : Cpu) {start : Psw} {after : Done} (how : Event) → Before c start after
@@ -67,6 +69,12 @@ pub left-faulted : (h : Host) (g : Guest) (c : Cpu) (f : Failure) (d : Done) {st
 unfolding eventOf cpuAfter storageAfter keysAfter
 left-faulted h g c f d ended kept bytes marks = record { event = ended; cpu = kept; bytes = sym bytes; marks = sym marks }
 
+-- an interception leaves its state, and storage and keys as they were
+pub left-intercepted : (h : Host) (g : Guest) (c : Cpu) (r : Reason) (to : Cpu) (d : Done) → d .event ≡ event.Intercepted r → leftBy c d ≡ to
+    → Left h g c (intercepted r to) d (h .storage) (h .keys)
+unfolding eventOf cpuAfter storageAfter keysAfter
+left-intercepted h g c r to d ended left = record { event = ended; cpu = left; bytes = refl; marks = refl }
+
 pub left-completed : (h : Host) (g : Guest) (c : Cpu) (o : Outcome) (d : Done) {to : Cpu} {stores marks : List ℕ → List ℕ} {storage keys : List ℕ}
     → Completes (backing g h) o to stores marks → d .event ≡ event.Completed → leftBy c d ≡ to
     → storage ≡ stores (h .storage) → keys ≡ marks (h .keys) → Left h g c o d storage keys
@@ -76,6 +84,12 @@ left-completed h g c o d all ended to bytes marks = record {
   bytes = bytes ∙ sym (all .storage (h .storage));
   marks = marks ∙ sym (all .keys (h .keys));
 }
+
+-- past the instruction, from a state with the PSW that was advanced
+pub past-it : (h : Host) (x : Progress) {g : Guest} {clock : ℕ} {c : Cpu} {text : Text} {t : Frames} → Standing h x g clock c text t
+    → (k : Cpu) (psw : Psw) → psw ≡ advanced k (text .ilc) .psw → withPsw k psw ≡ next x k
+unfolding advanced withAddress withPsw
+past-it h x standing k psw moved = ap (withPsw k) moved ∙ ap (λ u. advanced k (u .ilc)) (sym (standing .ofText))
 
 -- an interruption that is a host fault, and one that is completed with a new PSW
 taken-faulted : (h : Host) (g : Guest) (to : Cpu) (o : Outcome) (f : Failure) {storage keys : List ℕ} → o ≡ faulted f → h .storage ≡ storage → h .keys ≡ keys

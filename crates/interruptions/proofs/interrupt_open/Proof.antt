@@ -1,13 +1,13 @@
--- `execute::interrupt_open` meets its contract. What is stored in the frame's part is stored at the frame's address.
+-- `interruptions::interrupt_open` meets its contract. What is stored in the frame's part is stored at the frame's address.
 -- Assumes nothing.
 use mathlib.Core.Path.{ap, _∙_}
 use borrow.Author.Needs.{needs}
 use Rattle.machine.specs.Record.{pswOf}
 use Rattle.machine.specs.Host.{referenced, changed}
 use Rattle.address.specs.Operands.{markFrame}
-use Rattle.execute.proofs.Leaving.{areas-in-frame}
-use Rattle.execute.proofs.interrupt_open.Statement.{statement}
-use Rattle.execute.proofs.interrupt_open.Tie as tie
+use Rattle.interruptions.proofs.Leaving.{areas-in-frame}
+use Rattle.interruptions.proofs.interrupt_open.Statement.{statement}
+use Rattle.interruptions.proofs.interrupt_open.Tie as tie
 
 mul-base : tie.Need-mul-base
 mul-base c = search needs
