@@ -95,7 +95,7 @@ pub fn charged(cpu: Cpu, time: u32) -> Cpu
     ensures { λ r. ⌜ (r ≡ charged cpu time) × Bounded r ⌝ }
 {
     let mut next = cpu;
-    next.timer = cpu::timer_after(cpu.timer, time);
+    next.timer = clocks::timer_after(cpu.timer, time);
     next
 }
 

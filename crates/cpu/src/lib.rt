@@ -3,11 +3,10 @@
 ghost use mathlib.Core.Path.{_≡_};
 ghost use mathlib.Core.Bool.{true, false, _&&_, _||_};
 ghost use Prim.Native.Nat.{ℕ, _+_, _*_, _^_, _≤_, _<_};
-ghost use lib.Dec.{eqb, ltb};
+ghost use lib.Dec.{eqb};
 ghost use Rattle.machine.specs.declared.Cpu.{Cpu};
 ghost use Rattle.machine.specs.Words.{bits, bit};
 ghost use Rattle.machine.specs.Psw.{basicControl, ioEnabled, externalEnabled, waiting, problemState, conditionCode, overflowEnabled, instructionAddress, notInstalled, leftMalformed, malformed, wrap, withAddress, advanced, withConditionCode, oldPsw};
-ghost use Rattle.machine.specs.Time.{guestClock, comparatorDue, timerDue, clockAfter, timerAfter};
 ghost use Rattle.machine.specs.Host.{Cell};
 ghost use Rattle.machine.specs.Outcomes.{Progress};
 ghost use Rattle.machine.specs.Execute.{addressPart, operandAddress, indexedAddress, selected, rangeCount};
@@ -332,48 +331,6 @@ pub fn old_psw(psw: Psw, ilc: u32, code: u32) -> Psw
     psw
 }
 
-// The clock that the guest sees.
-pub fn guest_clock(epoch: u64, clock: u64) -> u64
-    ensures { λ r. ⌜ ((g : Guest) → g .epoch ≡ epoch → r ≡ guestClock g clock) ⌝ }
-{
-    std::num::wrapping_add_u64(clock, epoch)
-}
-
-// A clock is past a comparator, both unsigned.
-fn past(comparator: u64, clock: u64) -> bool
-    ensures { λ r. ⌜ r ≡ ltb comparator clock ⌝ }
-{
-    comparator < clock
-}
-
-// The guest clock is past the comparator.
-pub fn comparator_due(guest: Guest, clock: u64) -> bool
-    ensures { λ r. ⌜ r ≡ comparatorDue guest clock ⌝ }
-{
-    past(guest.comparator, guest_clock(guest.epoch, clock))
-}
-
-// The CPU timer is negative.
-pub fn timer_due(timer: u64) -> bool
-    ensures { λ r. ⌜ ((c : Cpu) → c .timer ≡ timer → r ≡ timerDue c) ⌝ }
-{
-    timer / 9223372036854775808 % 2 == 1
-}
-
-// The CPU timer after a unit.
-pub fn timer_after(timer: u64, time: u32) -> u64
-    ensures { λ r. ⌜ r ≡ timerAfter timer time ⌝ }
-{
-    std::num::wrapping_sub_u64(timer, time as u64)
-}
-
-// The host clock after a unit.
-pub fn clock_after(clock: u64, time: u32) -> u64
-    ensures { λ r. ⌜ r ≡ clockAfter clock time ⌝ }
-{
-    std::num::wrapping_add_u64(clock, time as u64)
-}
-
 // The content of a base or index register: register 0 stands for zero.
 pub fn address_part(general: Registers, i: u32) -> u32
     requires { ⌜ i < 16 ⌝ }
@@ -503,7 +460,7 @@ fn comparator_interrupts(guest: Guest, clock: u64, control: Registers) -> bool
     ensures { λ r. ⌜ ((c : Cpu) → c .control ≡ control → r ≡ comparatorInterrupts guest clock c) ⌝ }
 {
     let cr0 = control.words[0];
-    both(cr0 / 2048 % 2 == 1, comparator_due(guest, clock))
+    both(cr0 / 2048 % 2 == 1, clocks::comparator_due(guest, clock))
 }
 
 // Step 5: the CPU timer interrupts, where external interruptions are enabled.
@@ -511,7 +468,7 @@ fn timer_interrupts(timer: u64, control: Registers) -> bool
     ensures { λ r. ⌜ ((c : Cpu) → c .timer ≡ timer → c .control ≡ control → r ≡ timerInterrupts c) ⌝ }
 {
     let cr0 = control.words[0];
-    both(cr0 / 1024 % 2 == 1, timer_due(timer))
+    both(cr0 / 1024 % 2 == 1, clocks::timer_due(timer))
 }
 
 // After step 5: the interval timer interrupts, where external interruptions are enabled.

@@ -1,6 +1,6 @@
 -- A unit with its tick, as the loop holds it, by what the interval timer does.
 -- Assumes nothing.
-use Prim.Native.Nat.{ℕ, _-_, _<_}
+use Prim.Native.Nat.{ℕ, _<_}
 use mathlib.Core.Path.{_≡_, refl, ap, sym, subst, _∙_}
 use mathlib.Core.Bool.{Bool, true, false, cond, _&&_, false≢true}
 use mathlib.Core.List.{List}
@@ -16,8 +16,7 @@ use Rattle.machine.specs.Host.{Host, host, view}
 use Rattle.machine.specs.Outcomes.{Outcome, completed, intercepted, faulted}
 use Rattle.machine.specs.Units.{unit}
 use Rattle.machine.specs.Time.{clockAfter, charged}
-use Rattle.machine.specs.Run.{hostOf, wordAccesses, goes, ends, step, Ended as Run, run}
-use Rattle.machine.proofs.Runs.{more}
+use Rattle.machine.specs.Run.{hostOf, wordAccesses, goes, ends, step, Ended as Run}
 use Rattle.interruptions.specs.declared.Done.{Done}
 use Rattle.interruptions.specs.declared.Event.{Event}
 use Rattle.interruptions.specs.declared.Event.the-variants.{Completed, Intercepted, Faulted}
@@ -29,12 +28,12 @@ use Rattle.unit.specs.Foretelling.{Comes}
 use Rattle.unit.proofs.Foretelling.{left-of}
 use Rattle.charging.specs.declared.Due.{Due}
 use Rattle.charging.specs.declared.Due.the-variants.{Later, At, Shut}
-use Rattle.run.specs.declared.Streak.{Streak}
 use Rattle.charging.specs.Ending.{isCompleted, endOf, ofXa}
-use Rattle.run.specs.Running.{plainAt, timedAt, machineAt, OfGuest, Ends, afterStreak, Streaks, Paced}
+use Rattle.streaks.specs.Remaining.{plainAt, machineAt, OfGuest}
+use Rattle.run.specs.Running.{timedAt, Ends}
 use Rattle.charging.specs.Ticking.{requestBehind, WordFound, DueFound, isShut, faultEnd, Fallen}
 use Rattle.run.proofs.Ticks.{guest-here}
-use Rattle.run.proofs.Steps.{never-active, off-goes, off-stops}
+use Rattle.streaks.proofs.Steps.{machine-off, off-goes, off-stops}
 use Rattle.run.proofs.Stepping.{Unit, Ticked, untouched, stepTo, leaves, step-leads, exit-steps, rise-steps, fall-steps, fault-steps}
 
 -- an outcome that completes a unit
@@ -44,12 +43,7 @@ complete-event (completed c e) = refl
 complete-event (intercepted r c) = refl
 complete-event (faulted f) = refl
 
--- the machine in hand, where the timer is not active, and where it is
-machine-off : (g : Guest) (d : List ℕ) → active g ≡ false → (c : Cpu) (request residue clock : ℕ) (s k : List ℕ)
-    → machineAt g d c request residue clock s k ≡ plainAt d c clock s k
-machine-off g d off c request residue clock s k =
-    λ i. record { description = cond (off i) (withInterval request residue (withCpu c d)) (withCpu c d); clock = clock; storage = s; keys = k }
-
+-- the machine in hand, where the timer is active
 machine-on : (g : Guest) (d : List ℕ) → active g ≡ true → (c : Cpu) (request residue clock : ℕ) (s k : List ℕ)
     → machineAt g d c request residue clock s k ≡ timedAt d c request residue clock s k
 machine-on g d on c request residue clock s k =
@@ -202,18 +196,6 @@ module _ (n : Numbers) (g : Guest) (d : List ℕ) (of : OfGuest g d) (c : Cpu) (
             (ap (λ b. isCompleted (eventOf (unit g clock b (view g h) c))) (sym (begun .told)) ∙ sym (ap isCompleted (told .event)) ∙ whole)
             ∙ ap (ends (faultEnd (Shut f))) (sym (machine-on g d on c request residue clock storage keys))
             ∙ (λ i. ends (faultEnd (Shut f)) (machineAt g d c request residue clock (sym (told .bytes) i) (sym (told .marks) i)))
-
--- a streak of a 370-XA guest: the timer is not active
-pub paced : (designation : ℕ) (g : Guest) (clock time budget : ℕ) (c : Cpu) (storage keys : List ℕ) (r : Streak) (s k : List ℕ) → c .psw .system370 ≡ false
-    → system370Mode (g .mode) ≡ false → Streaks designation g clock time budget c storage keys r s k → Paced designation g clock time budget c storage keys r s k
-paced designation g clock time budget c storage keys r s k plain xa streaks = record {
-  bounded = streaks .bounded;
-  architecture = streaks .architecture ∙ sym plain;
-  remains = λ n d request residue designated timed of.
-      ap (run budget n) (machine-off g d (never-active g xa) c request residue clock storage keys)
-      ∙ streaks .remains n d designated timed (of .long) (of .own)
-      ∙ ap (λ m. more (r .units) (run (budget - r .units) n m)) (sym (machine-off g d (never-active g xa) (afterStreak c r) request residue (r .clock) s k));
-}
 
 -- the end of a run
 pub ended-so : {e : Run} {g : Guest} {d : List ℕ} {why : End} {units : ℕ} {c : Cpu} {request residue clock : ℕ} {s k : List ℕ}

@@ -86,7 +86,7 @@ pub fn store_clock(
     if o.shut {
         return done;
     }
-    let value = cpu::guest_clock(guest.epoch, clock);
+    let value = clocks::guest_clock(guest.epoch, clock);
     writer::put_double_operand(storage, value, o.first, o.count, o.second);
     let psw = cpu::advanced(cpu::with_condition_code(cpu.psw, 0), text.ilc as u32);
     interruptions::with_psw(cpu, psw)

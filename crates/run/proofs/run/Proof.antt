@@ -19,10 +19,11 @@ use Rattle.interruptions.specs.After.{leftBy}
 use Rattle.charging.specs.Ending.{ofXa}
 use Rattle.charging.proofs.Dues.{reaches}
 use Rattle.charging.proofs.States.{of-mode, charged-mode}
-use Rattle.run.specs.Running.{machineAt, OfGuest, Remains, afterStreak}
-use Rattle.run.proofs.Steps.{remains-start}
-use Rattle.run.proofs.Streaking.{streak-more}
-use Rattle.run.proofs.Remaining.{budget-ends, one-more, exit-ends}
+use Rattle.streaks.specs.Remaining.{machineAt, OfGuest, Remains}
+use Rattle.streaks.specs.Streaking.{afterStreak}
+use Rattle.streaks.proofs.Remaining.{budget-ends, one-more, exit-ends}
+use Rattle.streaks.proofs.Steps.{remains-start}
+use Rattle.streaks.proofs.Streaking.{streak-more}
 use Rattle.run.proofs.Whole.{Begun, begun-at, comes-at, goes-to, stops-to, faults-to, ended-so}
 use Rattle.run.proofs.run.Statement.{statement}
 use Rattle.run.proofs.run.Tie as tie
