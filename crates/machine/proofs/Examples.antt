@@ -6,7 +6,7 @@ use mathlib.Core.Path.{_≡_, refl, ap, _∙_}
 use mathlib.Core.Bool.{Bool, true, false, cond, not}
 use mathlib.Core.List.{List, [], _++_}
 use lib.Dec.{eqb}
-use lib.ListN.{length, set, replicate}
+use lib.ListN.{length}
 use lib.Seq.{getD-set-same}
 use borrow.Author.Tests.{lt-ltb, le-ltb, le-leb, eqb-true}
 use Rattle.machine.specs.declared.Class.the-variants.{Ar}
@@ -20,9 +20,8 @@ use Rattle.machine.specs.declared.TableEntry.the-variants.{Word, Unread}
 use Rattle.machine.specs.declared.Walk.{Walk}
 use Rattle.machine.specs.declared.Walk.the-variants.{Page, Failed}
 use Rattle.machine.specs.Words.{bits, wordAt}
-use Rattle.machine.specs.Record.{guestOf, pswOf, cpuOf}
-use Rattle.machine.specs.Refusals.{wrongLength, wrongVersion, wrongStorage, wrongKeys, used, wrongInterval, reservedUsed, wrongAccess, translateVerdict}
-use Rattle.machine.specs.Entry.{extentBytes, modeInstalled, extentFits, prefixFits, prefixShort, entryGood}
+use Rattle.machine.specs.Record.{guestOf, cpuOf}
+use Rattle.machine.specs.Entry.{extentBytes, extentFits, prefixFits, prefixShort, entryGood}
 use Rattle.machine.specs.Psw.{pswBit, datOn, conditionCode, instructionAddress, overflowEnabled, wrap, withPsw, withTimer, control, general, withGeneral, withAddress, advanced, withConditionCode}
 use Rattle.machine.specs.Time.{guestClock, comparatorDue, timerDue, timerAfter, charged}
 use Rattle.machine.specs.Failures.{addressing, segmentTranslation, pageTranslation, translationSpecification, hostFault, exceptionOf, walkException}
@@ -289,37 +288,3 @@ which-table-examples = record {
   endOfRun = end-of-run;
   frameBeyondStorage = frame-beyond-storage;
 }
-
--- the setup can be met: a record, a storage and keys of zeros, but for the fields and words that it names
-pub setup-exists : (r : List ℕ) × (h : Host) × Setup r h
-unfolding translateVerdict wrongLength wrongVersion wrongStorage wrongKeys used wrongInterval reservedUsed wrongAccess guestOf cpuOf pswOf
-    wordAt modeInstalled
-setup-exists = (
-  description,
-  host,
-  record {
-    accepted = refl;
-    designation = refl;
-    segment = refl;
-    page = refl;
-    pageAfter = refl;
-    frames = refl;
-    mode = refl;
-    origin = refl;
-    extent = refl;
-    prefix = refl;
-    datOff = refl;
-    key = refl;
-    bit32 = refl;
-  },
-)
-  where
-    description : List ℕ
-    description = set (set (set (set (set (replicate 200 0) 1 200) 2 1) 4 8) 15 1) 20 0x80
-
-    host : Host
-    host = record {
-      designation = 0x1000;
-      storage = set (set (set (replicate 32768 0) 4098 0x20) 8194 0x30) 8198 0x04;
-      keys = replicate 8 0;
-    }

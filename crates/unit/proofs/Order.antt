@@ -23,9 +23,9 @@ use Rattle.text.specs.declared.Reading.{Reading}
 use Rattle.text.specs.Fetching.{FetchedAs}
 use Rattle.ahead.specs.Completing.{isComplete, WordShut}
 use Rattle.ahead.proofs.Shut.{exception-incomplete}
-use Rattle.unit.specs.declared.Tests.{Tests}
-use Rattle.unit.specs.declared.Tests.the-variants.{Excepted, Intercepted}
-use Rattle.unit.specs.Testing.{afterTests}
+use Rattle.dispatch.specs.declared.Tests.{Tests}
+use Rattle.dispatch.specs.declared.Tests.the-variants.{Excepted, Intercepted}
+use Rattle.dispatch.specs.Testing.{afterTests}
 
 module _ (g : Guest) (h : Host) {why : Failure} (shut : WordShut g h why) where
   module _ (x : Progress) {clock : ℕ} {c : Cpu} {text : Text} {t : Frames} (standing : Standing h x g clock c text t) (o : Opcode) {r : Tests}

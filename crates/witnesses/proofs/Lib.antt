@@ -2,3 +2,4 @@ pub mod OneFrame
 pub mod IsolationIsNotEmpty
 pub mod TimedRuns
 pub mod ChangesExist
+pub mod Setup

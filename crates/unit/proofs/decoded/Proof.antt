@@ -13,8 +13,8 @@ use Rattle.machine.specs.Units.{decoded}
 use Rattle.interruptions.specs.declared.Done.{Done}
 use Rattle.interruptions.specs.After.{Left}
 use Rattle.text.proofs.Order.{by-failure}
-use Rattle.unit.specs.declared.Tests.{Tests}
-use Rattle.unit.specs.Testing.{afterTests, exceptionCode}
+use Rattle.dispatch.specs.declared.Tests.{Tests}
+use Rattle.dispatch.specs.Testing.{afterTests, exceptionCode}
 use Rattle.unit.proofs.Order.{excepted-halts, intercepted-halts}
 use Rattle.unit.proofs.Foretelling.{comes-left, comes-along}
 use Rattle.unit.proofs.decoded.Statement.{statement}

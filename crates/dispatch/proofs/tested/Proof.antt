@@ -1,11 +1,11 @@
--- `unit::tested` meets its contract, test by test.
+-- `dispatch::tested` meets its contract, test by test.
 -- Assumes nothing.
 use native.Mathlib.Omega.{arith}
 use mathlib.Core.Path.{ap, sym, _∙_}
 use borrow.Author.Needs.{needs}
 use Rattle.machine.specs.Units.{misaligned, decoded}
-use Rattle.unit.proofs.tested.Statement.{statement}
-use Rattle.unit.proofs.tested.Tie as tie
+use Rattle.dispatch.proofs.tested.Statement.{statement}
+use Rattle.dispatch.proofs.tested.Tie as tie
 
 unassigned-requires : tie.Need-unassigned-requires
 unassigned-requires c κs = search needs

@@ -1,9 +1,9 @@
--- `unit::forbidden` meets its contract.
+-- `dispatch::forbidden` meets its contract.
 -- Assumes nothing.
 use mathlib.Core.Path.{refl}
 use borrow.Author.Needs.{needs}
-use Rattle.unit.proofs.forbidden.Statement.{statement}
-use Rattle.unit.proofs.forbidden.Tie as tie
+use Rattle.dispatch.proofs.forbidden.Statement.{statement}
+use Rattle.dispatch.proofs.forbidden.Tie as tie
 
 problem-state-requires : tie.Need-problem-state-requires
 problem-state-requires c κs = search needs

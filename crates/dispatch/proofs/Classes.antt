@@ -14,7 +14,7 @@ use Rattle.machine.specs.declared.Class.the-variants.{Lr, Ar, Sr, Bcr, Svc, La,
 use Rattle.machine.specs.Opcodes.{codeOf, sameClass}
 use Rattle.machine.proofs.Class.{the-type}
 use Rattle.decode.proofs.Packing.{classes}
-use Rattle.unit.specs.Testing.{withOperand, WithOperand}
+use Rattle.dispatch.specs.Testing.{withOperand, WithOperand}
 
 pub declared-at : (k : Class) → tagOf the-type k ≡ codeOf k
 declared-at Lr = refl

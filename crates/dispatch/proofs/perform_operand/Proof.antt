@@ -1,12 +1,12 @@
--- `unit::perform_operand` meets its contract.
+-- `dispatch::perform_operand` meets its contract.
 -- Assumes nothing.
 use Rattle.machine.specs.Host.{host}
 use Rattle.machine.specs.Execute.{execute}
 use Rattle.text.proofs.Order.{performed}
 use borrow.Author.Needs.{needs}
-use Rattle.unit.proofs.Classes.{left-stpt}
-use Rattle.unit.proofs.perform_operand.Statement.{statement}
-use Rattle.unit.proofs.perform_operand.Tie as tie
+use Rattle.dispatch.proofs.Classes.{left-stpt}
+use Rattle.dispatch.proofs.perform_operand.Statement.{statement}
+use Rattle.dispatch.proofs.perform_operand.Tie as tie
 
 enum-told : tie.Need-enum-told
 enum-told c = search needs

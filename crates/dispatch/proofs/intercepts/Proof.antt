@@ -1,4 +1,4 @@
--- `unit::intercepts` meets its contract.
+-- `dispatch::intercepts` meets its contract.
 -- Assumes nothing.
 use native.Mathlib.Nat.{div-one}
 use mathlib.Core.Path.{refl, sym, _∙_}
@@ -7,9 +7,9 @@ use borrow.Author.Needs.{needs}
 use Rattle.machine.specs.declared.Class.the-variants.{Svc, Lpsw, Lctl}
 use Rattle.machine.specs.Words.{bits}
 use Rattle.machine.specs.Units.{interceptsLctl, intercepts}
-use Rattle.unit.proofs.Classes.{none-of}
-use Rattle.unit.proofs.intercepts.Statement.{statement}
-use Rattle.unit.proofs.intercepts.Tie as tie
+use Rattle.dispatch.proofs.Classes.{none-of}
+use Rattle.dispatch.proofs.intercepts.Statement.{statement}
+use Rattle.dispatch.proofs.intercepts.Tie as tie
 
 enum-told : tie.Need-enum-told
 enum-told c = search needs

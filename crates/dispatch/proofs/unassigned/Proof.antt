@@ -1,12 +1,12 @@
--- `unit::unassigned` meets its contract.
+-- `dispatch::unassigned` meets its contract.
 -- Assumes nothing.
 use mathlib.Core.Path.{refl, sym}
 use mathlib.Core.List.{[], _∷_}
 use borrow.Author.Needs.{needs}
 use Rattle.machine.specs.declared.Class.the-variants.{Unassigned}
-use Rattle.unit.proofs.Classes.{none-of}
-use Rattle.unit.proofs.unassigned.Statement.{statement}
-use Rattle.unit.proofs.unassigned.Tie as tie
+use Rattle.dispatch.proofs.Classes.{none-of}
+use Rattle.dispatch.proofs.unassigned.Statement.{statement}
+use Rattle.dispatch.proofs.unassigned.Tie as tie
 
 enum-told : tie.Need-enum-told
 enum-told c = search needs

@@ -1,12 +1,12 @@
--- `unit::intercept_instruction` meets its contract.
+-- `dispatch::intercept_instruction` meets its contract.
 -- Assumes nothing.
 use mathlib.Core.Path.{refl, ap, _∙_}
 use Rattle.machine.specs.Psw.{withPsw}
 use Rattle.interruptions.specs.After.{leftBy}
 use Rattle.text.proofs.Order.{instruction-intercepted}
 use borrow.Author.Needs.{needs}
-use Rattle.unit.proofs.intercept_instruction.Statement.{statement}
-use Rattle.unit.proofs.intercept_instruction.Tie as tie
+use Rattle.dispatch.proofs.intercept_instruction.Statement.{statement}
+use Rattle.dispatch.proofs.intercept_instruction.Tie as tie
 
 cast-advanced : tie.Need-cast-advanced
 cast-advanced c = search needs

@@ -1,4 +1,4 @@
--- `unit::perform` meets its contract.
+-- `dispatch::perform` meets its contract.
 -- Assumes nothing.
 use native.Mathlib.Omega.{arith}
 use mathlib.Core.Path.{refl}
@@ -6,9 +6,9 @@ use Rattle.machine.specs.Host.{host}
 use Rattle.machine.specs.Execute.{execute}
 use Rattle.text.proofs.Order.{performed, performed-unassigned}
 use borrow.Author.Needs.{needs}
-use Rattle.unit.proofs.Classes.{left-with-operand}
-use Rattle.unit.proofs.perform.Statement.{statement}
-use Rattle.unit.proofs.perform.Tie as tie
+use Rattle.dispatch.proofs.Classes.{left-with-operand}
+use Rattle.dispatch.proofs.perform.Statement.{statement}
+use Rattle.dispatch.proofs.perform.Tie as tie
 
 enum-told : tie.Need-enum-told
 enum-told c = search needs

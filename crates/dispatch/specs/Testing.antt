@@ -10,8 +10,8 @@ use Rattle.machine.specs.Opcodes.{codeOf}
 use Rattle.machine.specs.Outcomes.{Outcome, Progress}
 use Rattle.machine.specs.Interruptions.{exception}
 use Rattle.machine.specs.Execute.{interceptInstruction, execute}
-use Rattle.unit.specs.declared.Tests.{Tests}
-use Rattle.unit.specs.declared.Tests.the-variants.{Excepted, Intercepted, Clear}
+use Rattle.dispatch.specs.declared.Tests.{Tests}
+use Rattle.dispatch.specs.declared.Tests.the-variants.{Excepted, Intercepted, Clear}
 
 -- the classes of the instructions with an operand in storage
 abbrev pub withOperand : List Class
