@@ -30,9 +30,6 @@ const BLOCK_PAGES: u32 = 16;
 // Numbers from here on say that an entry is out of reach.
 const OUTSIDE: u64 = 4294967296;
 
-// The access kind of a fetch, by which the verdict on an input has no test of its own.
-const FETCH: u32 = 0;
-
 // The numbers of the refusals.
 const OUT_OF_REACH: u32 = 10;
 
@@ -214,7 +211,7 @@ pub fn change(
 ) -> Called
     ensures { λ a. ⌜ Gives (deskOf c (now (r .entry)) designation (now (storage .entry)) (now (keys .entry)) p (now (number .entry))) a (now (storage .exit)) (now (number .exit)) ⌝ }
 {
-    match refusals::translate_verdict(r, storage, keys, FETCH) {
+    match refusals::desk_verdict(r, storage, keys) {
         Verdict::Refused(refusal) => Called::Refused(refusal),
         Verdict::Accepted => change_accepted(r, storage, c, designation, p, number),
     }
@@ -249,7 +246,7 @@ fn list_accepted(r: &[u8], storage: &[u8], designation: u32, words: &mut [u32]) 
 pub fn list(r: &[u8], storage: &[u8], keys: &[u8], designation: u32, words: &mut [u32]) -> Listed
     ensures { λ a. ⌜ Lists (listOf (now (r .entry)) designation (now (storage .entry)) (now (keys .entry)) (now (words .entry))) a (now (words .exit)) ⌝ }
 {
-    match refusals::translate_verdict(r, storage, keys, FETCH) {
+    match refusals::desk_verdict(r, storage, keys) {
         Verdict::Refused(refusal) => Listed::Refused(refusal),
         Verdict::Accepted => list_accepted(r, storage, designation, words),
     }

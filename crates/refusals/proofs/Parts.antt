@@ -15,7 +15,7 @@ use Rattle.machine.specs.declared.Verdict.the-variants.{Accepted, Refused}
 use Rattle.machine.specs.Sizes.{frameBytes}
 use Rattle.machine.specs.Words.{bits, bit, byteAt, halfAt}
 use Rattle.machine.specs.Record.{recordLength, longLength, GoodLength, versionFor, system370Mode, guestOf}
-use Rattle.machine.specs.Refusals.{mostFrames, framesOf, refuse, wrongLength, wrongVersion, wrongStorage, wrongKeys, used, wrongInterval, reservedUsed, checkVerdict, translateVerdict, runVerdict}
+use Rattle.machine.specs.Refusals.{mostFrames, framesOf, refuse, wrongLength, wrongVersion, wrongStorage, wrongKeys, used, wrongInterval, reservedUsed, wrongAccess, checkVerdict, translateVerdict, runVerdict}
 use Rattle.machine.specs.Entry.{modeInstalled, extentFits, prefixFits, prefixShort, entryGood}
 use Rattle.machine.proofs.Verdicts.{accepted-test, length-of-right}
 use Rattle.refusals.specs.Parts.{firstRefusal, headVerdict, storageVerdict, numbersVerdict, reservedVerdict, intervalVerdict, accessVerdict, xaMode, modeGood}
@@ -96,7 +96,7 @@ unfolding firstRefusal
 first-accepted Accepted v accepted = refl
 first-accepted (Refused number) v accepted = accepted
 
--- the three verdicts, made of their parts
+-- the verdicts, made of their parts
 
 pub check-parts : (r : List ℕ) → firstRefusal (headVerdict r) (reservedVerdict r) ≡ checkVerdict r
 unfolding checkVerdict firstRefusal headVerdict reservedVerdict
@@ -106,6 +106,11 @@ pub translate-parts : (r storage keys : List ℕ) (kind : ℕ)
     → firstRefusal (headVerdict r) (firstRefusal (storageVerdict storage keys) (firstRefusal (reservedVerdict r) (accessVerdict kind))) ≡ translateVerdict r storage keys kind
 unfolding translateVerdict firstRefusal headVerdict storageVerdict reservedVerdict accessVerdict
 translate-parts r storage keys kind = simp first-of-refuse
+
+pub desk-parts : (r storage keys : List ℕ)
+    → firstRefusal (firstRefusal (headVerdict r) (storageVerdict storage keys)) (reservedVerdict r) ≡ translateVerdict r storage keys 0
+unfolding translateVerdict firstRefusal headVerdict storageVerdict reservedVerdict wrongAccess
+desk-parts r storage keys = simp first-of-refuse
 
 pub run-parts : (n : Numbers) (r storage keys : List ℕ)
     → firstRefusal (firstRefusal (headVerdict r) (firstRefusal (storageVerdict storage keys) (numbersVerdict n))) (reservedVerdict r) ≡ runVerdict n r storage keys

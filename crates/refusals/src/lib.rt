@@ -314,6 +314,17 @@ pub fn translate_verdict(r: &[u8], storage: &[u8], keys: &[u8], kind: u32) -> Ve
     after_head(r, storage, keys, kind, head_verdict(r))
 }
 
+// The verdict on the input of the page desk: that of a fetch, of which refusal 8 is not asked. It stands beside translate's, which is part
+// of its one caller so.
+pub fn desk_verdict(r: &[u8], storage: &[u8], keys: &[u8]) -> Verdict
+    ensures { λ v. ⌜ v ≡ translateVerdict (now (r .entry)) (now (storage .entry)) (now (keys .entry)) 0 ⌝ }
+{
+    reserved_after(
+        r,
+        first_refusal(head_verdict(r), storage_verdict(storage, keys)),
+    )
+}
+
 // The verdict on the input of run.
 pub fn run_verdict(n: Numbers, r: &[u8], storage: &[u8], keys: &[u8]) -> Verdict
     ensures { λ v. ⌜ v ≡ runVerdict n (now (r .entry)) (now (storage .entry)) (now (keys .entry)) ⌝ }
