@@ -7,8 +7,7 @@
 #define _POSIX_C_SOURCE 199309L
 #include <time.h>
 
-#include "../tests/c/desk.h"
-#include "plain.h"
+#include "plain_desk.h"
 
 #define ROUNDS 15
 #define SLICE_SECONDS 0.004
@@ -22,10 +21,10 @@
 #define LARGE DREVOKAS_MOST_PAGES
 
 #define LIST CHANGES
+#define FIRST (CHANGES + 1)
 
-static const struct desk plain_desk = {plain_add_page, plain_remove_page, plain_protect_page, plain_list_pages};
-
-/* Which operation, on an extent of which all pages are valid (but for the one to be added), or every second. */
+/* Which operation, on an extent of which all pages are valid (but for the one to be added), or every second: then the first
+   unbacked page is page 1. */
 struct row {
     const char *name;
     int operation, half;
@@ -40,6 +39,8 @@ static const struct row rows[] = {
     {"remove, half valid", REMOVE, 1},
     {"protect", PROTECT, 0},
     {"protect, half valid", PROTECT, 1},
+    {"first unbacked", FIRST, 0},
+    {"first unbacked, half valid", FIRST, 1},
 };
 
 #define ROWS (sizeof rows / sizeof *rows)
@@ -49,6 +50,7 @@ struct rig {
     uint8_t record[DREVOKAS_RECORD_LENGTH], *storage, *keys;
     struct handed handed;
     uint32_t pages, page, valid, *words;
+    uint64_t where;
 };
 
 static void *memory(size_t bytes)
@@ -89,6 +91,7 @@ static void build(struct rig *r, const struct row *row, uint32_t pages)
 {
     r->pages = pages;
     r->valid = 0;
+    r->where = 0;
     r->storage = memory((size_t)FRAMES * DREVOKAS_FRAME_BYTES);
     r->keys = memory(FRAMES);
     r->words = memory(pages * sizeof *r->words);
@@ -114,6 +117,8 @@ static uint64_t call(const struct desk *d, const struct row *row, struct rig *r)
 {
     if (row->operation == LIST)
         return list_pages(d, &r->handed, r->words, r->pages);
+    if (row->operation == FIRST)
+        return first_unbacked(d, &r->handed, 0, r->pages, &r->where);
     return change_page(d, &r->handed, (enum change)row->operation, r->page, TABLES, &r->valid);
 }
 
@@ -155,6 +160,14 @@ static unsigned long slice_of(const struct desk *d, const struct row *row, struc
     return calls;
 }
 
+/* The answer that a row is to have. */
+static uint64_t answer_to(const struct row *row, uint32_t pages)
+{
+    if (row->operation == LIST)
+        return listed(row->half ? pages / 2 : pages);
+    return answer_of(row->operation == FIRST && !row->half ? DREVOKAS_NONE : DREVOKAS_GOOD, 0);
+}
+
 /* Whether both do the call, and leave the same. */
 static int row_is_true(const struct row *row, uint32_t pages)
 {
@@ -166,12 +179,10 @@ static int row_is_true(const struct row *row, uint32_t pages)
     build(&b, row, pages);
     ours = call(&drevokas_desk, row, &a);
     plain = call(&plain_desk, row, &b);
-    same = ours == plain && a.valid == b.valid && memcmp(a.storage, b.storage, a.handed.storage_len) == 0
-           && memcmp(a.words, b.words, pages * sizeof *a.words) == 0;
-    if (row->operation == LIST)
-        same &= ours == listed(row->half ? pages / 2 : pages);
-    else
-        same &= ours == answer_of(DREVOKAS_GOOD, 0);
+    same = ours == plain && ours == answer_to(row, pages) && a.valid == b.valid
+           && memcmp(a.storage, b.storage, a.handed.storage_len) == 0
+           && memcmp(a.words, b.words, pages * sizeof *a.words) == 0 && a.where == b.where
+           && a.where == (row->operation == FIRST && row->half);
     tear_down(&a);
     tear_down(&b);
     if (!same)

@@ -42,7 +42,7 @@ for name in AR+BC AR+BC,DAT L+AR+ST+LA+BC L+AR+ST+LA+BC,DAT SVC SVC,DAT AR+BC,Sy
     counted bench_run "$name" 4096
 done
 printf '%-30s %6s %10s %10s\n' case pages drevokas plain
-for name in list add remove protect; do
+for name in list add remove protect 'first unbacked'; do
     counted bench_desk "$name" 16
     counted bench_desk "$name" 4096 100
     counted bench_desk "$name" 524288 2

@@ -26,4 +26,8 @@ uint64_t plain_protect_page(const uint8_t *record, size_t record_len, uint8_t *s
 uint64_t plain_list_pages(const uint8_t *record, size_t record_len, const uint8_t *storage, size_t storage_len,
                           const uint8_t *keys, size_t keys_len, uint32_t designation, uint32_t *frames, size_t count);
 
+uint64_t plain_first_unbacked(const uint8_t *record, size_t record_len, const uint8_t *storage, size_t storage_len,
+                              const uint8_t *keys, size_t keys_len, uint32_t designation, uint32_t from, uint32_t to,
+                              uint64_t *where);
+
 #endif

@@ -1,4 +1,4 @@
-/* The page desk. Written from document 01 and request 3/12 alone, as plain.c is. */
+/* The page desk. Written from document 01 and requests 3/12 and 4/12 alone, as plain.c is. */
 #include <string.h>
 
 #include "plain.h"
@@ -217,4 +217,43 @@ uint64_t plain_list_pages(const uint8_t *record, size_t record_len, const uint8_
             *frames++ = 0xffffffffu;
     }
     return answer(GOOD, 0) | valid;
+}
+
+/* How many of so many entries are valid, up to the first that is not. */
+static uint32_t valid_entries(const uint8_t *at, size_t count)
+{
+    size_t i;
+
+    for (i = 0; i < count && is_valid(word(at + i * 4)); i++)
+        ;
+    return (uint32_t)i;
+}
+
+uint64_t plain_first_unbacked(const uint8_t *record, size_t record_len, const uint8_t *storage, size_t storage_len,
+                              const uint8_t *keys, size_t keys_len, uint32_t designation, uint32_t from, uint32_t to,
+                              uint64_t *where)
+{
+    struct desk d;
+    uint64_t stop = open_desk(&d, record, record_len, storage, storage_len, keys_len, designation);
+    uint32_t page, valid;
+    struct segment s;
+
+    (void)keys;
+    if (stop == answer(INTERCEPTED, 32))
+        *where = 0;
+    if (stop)
+        return stop;
+    if (from > to || to > d.end - d.first)
+        return answer(REFUSED, 16);
+    d.end = d.first + to;
+    for (page = d.first + from; page < d.end; page += s.pages) {
+        s = segment_from(&d, page);
+        valid = valid_entries(storage + s.at, s.reached);
+        if (valid < s.pages) {
+            *where = page + valid - d.first;
+            return answer(GOOD, 0);
+        }
+    }
+    *where = 0;
+    return answer(NONE, 0);
 }

@@ -4,7 +4,7 @@
 
 #include <stdint.h>
 
-enum { REFUSED = 0, INTERCEPTED = 1, HOST_FAULT = 2, EXCEPTION = 4, GOOD = 5 };
+enum { REFUSED = 0, INTERCEPTED = 1, HOST_FAULT = 2, EXCEPTION = 4, GOOD = 5, NONE = 6 };
 
 #define BIT(i) (0x80000000u >> (i))
 

@@ -2,7 +2,7 @@
  * Drevokas: interpretive execution of one 370-XA or System/370 guest CPU with pageable storage.
  *
  * Numbers and byte positions are those of document 01, "Definition of the build and its rules", and of requests 1/12 to
- * 3/12 to it. Bit 0 is the leftmost bit, and what stands in bytes is big-endian.
+ * 4/12 to it. Bit 0 is the leftmost bit, and what stands in bytes is big-endian.
  *
  * The record, 200 bytes with version 1, or 208 with version 2, which System/370 needs:
  *   0-1 length (200 or 208); 2 version (1 or 2); 3 intervention requests; 4 mode; 5 interception controls;
@@ -45,12 +45,13 @@ extern "C" {
 #define DREVOKAS_MOST_TIME 1048576u
 
 /* The kind of an answer: bits 0-7. */
-#define DREVOKAS_REFUSED 0u           /* number: the refusal, 1 to 8 or 10 to 15 */
+#define DREVOKAS_REFUSED 0u           /* number: the refusal, 1 to 8 or 10 to 16 */
 #define DREVOKAS_INTERCEPTED 1u       /* number: the interception code; 32 for an entry that fails */
 #define DREVOKAS_HOST_FAULT 2u        /* number: the program code of the host fault */
 #define DREVOKAS_BUDGET_USED 3u       /* number: 0; an answer of run alone */
 #define DREVOKAS_PROGRAM_EXCEPTION 4u /* number: the guest's program code */
-#define DREVOKAS_GOOD 5u              /* number: 0; check: good; translate: translated; page desk: done */
+#define DREVOKAS_GOOD 5u              /* number: 0; check: good; translate: translated; page desk: done, or found */
+#define DREVOKAS_NONE 6u              /* number: 0; every page asked about is valid; an answer of first unbacked alone */
 
 /* Refusals, tested in this order, each where the operation has that input. Those from 10 on are the page desk's alone, and
    come after an entry that fails. */
@@ -68,6 +69,7 @@ extern "C" {
 #define DREVOKAS_REFUSAL_FRAME 13u   /* frame outside the storage; an answer of add alone */
 #define DREVOKAS_REFUSAL_ENTRY 14u   /* an entry would lie in a guest frame, or the page's entry serves twice */
 #define DREVOKAS_REFUSAL_WORDS 15u   /* workspace shorter than the extent's pages; an answer of list alone */
+#define DREVOKAS_REFUSAL_RANGE 16u   /* range ends before it begins, or past the extent; an answer of first unbacked alone */
 
 /* Interception codes. */
 #define DREVOKAS_CODE_INSTRUCTION 4u       /* the controls ask for it, or it is mandatory */
@@ -107,7 +109,8 @@ extern "C" {
    bits 32-63, where drevokas_list_pages has the number of valid pages. Beside an answer of translate and run, *where holds an
    address in its low 32 bits, and in its high 32 bits that of the entry of the table that the stage names: of the entry's
    first byte, guest real (before prefixing) for the guest's tables, host absolute for the host's. That is zero where the entry
-   was not read, and where it was read and stands at zero. */
+   was not read, and where it was read and stands at zero. Beside an answer of drevokas_first_unbacked *where holds a page in
+   its low 32 bits, and zeros in its high 32 bits. */
 
 #ifdef __cplusplus
 #define DREVOKAS_WORD(number) static_cast<uint32_t>(number)
@@ -145,7 +148,8 @@ static inline uint32_t drevokas_valid_pages(uint64_t answer)
     return DREVOKAS_WORD(answer & 0xffffffffu);
 }
 
-/* The two addresses in *where. A refusal leaves there what stood there before. */
+/* The two addresses in *where, and the page there, of drevokas_first_unbacked. A refusal leaves there what stood there
+   before. */
 
 static inline uint32_t drevokas_entry(uint64_t where)
 {
@@ -153,6 +157,11 @@ static inline uint32_t drevokas_entry(uint64_t where)
 }
 
 static inline uint32_t drevokas_address(uint64_t where)
+{
+    return DREVOKAS_WORD(where & 0xffffffffu);
+}
+
+static inline uint32_t drevokas_page(uint64_t where)
 {
     return DREVOKAS_WORD(where & 0xffffffffu);
 }
@@ -239,7 +248,8 @@ uint64_t drevokas_run(uint8_t *record, size_t record_len, uint8_t *storage, size
                       uint64_t *where);
 
 /*
- * The page desk of request 3/12: adds, removes or protects one page of a guest in the host's tables, and lists the pages.
+ * The page desk of requests 3/12 and 4/12: adds, removes or protects one page of a guest in the host's tables, lists the
+ * pages, and finds the first that is not valid.
  *
  * A page is one of 4,096 bytes of guest absolute storage, counted from 0 on at the start of the extent; there are 16 in a
  * 64 KiB block. Prefix, PSW and keys play no part, but for entry and refusal 4. A page's entry is in reach when the lengths
@@ -248,7 +258,8 @@ uint64_t drevokas_run(uint8_t *record, size_t record_len, uint8_t *storage, size
  * in storage that a valid page names. The entries that describe the extent are, where in reach, those of its pages and of the
  * segments that it touches, invalid ones too.
  *
- * Refusals and code 32 change nothing. The order is 1, 2, 3, 4, 7, code 32 if entry would fail, then:
+ * Refusals and code 32 change nothing, but that code 32 of first unbacked sets *where to 0. The order is 1, 2, 3, 4, 7, code
+ * 32 if entry would fail, then:
  *
  *   10   page outside the extent, or its entry out of reach
  *   11   add: page already valid
@@ -257,6 +268,7 @@ uint64_t drevokas_run(uint8_t *record, size_t record_len, uint8_t *storage, size
  *   14   add, remove and protect: after the call an entry that describes the extent would lie in a guest frame, or the page's
  *        entry is also that of another page of the extent, or that of a segment that the extent touches
  *   15   list: fewer words than the extent has pages
+ *   16   first unbacked: `from` above `to`, or `to` above the number of the extent's pages
  *
  * Add, remove and protect answer:
  *
@@ -300,6 +312,27 @@ uint64_t drevokas_protect_page(const uint8_t *record, size_t record_len, uint8_t
  */
 uint64_t drevokas_list_pages(const uint8_t *record, size_t record_len, const uint8_t *storage, size_t storage_len,
                              const uint8_t *keys, size_t keys_len, uint32_t designation, uint32_t *frames, size_t count);
+
+/*
+ * Finds the lowest page from `from` up to but not including `to` that is not valid: the first that the list would have as
+ * DREVOKAS_NO_FRAME there. It stops at that page; where a segment's entry is invalid, malformed or out of reach, that is the
+ * first page of the segment that is asked about. Answers:
+ *
+ *   kind                   number                    *where
+ *   DREVOKAS_REFUSED       1, 2, 3, 4, 7 or 16       not touched
+ *   DREVOKAS_INTERCEPTED   32: entry would fail      0
+ *   DREVOKAS_GOOD          0: found                  the page, counted as `from` is
+ *   DREVOKAS_NONE          0: none                   0
+ *
+ * None is answered exactly when every page asked about is valid, and so where `from` equals `to`. Where the entries lie does
+ * not matter: refusal 14 is not tested.
+ *
+ * Of the storage it reads one entry for each segment and one for each page at most, and none past the answer. Writes nothing
+ * but *where, which must be an aligned uint64_t apart from the record, the storage and the keys.
+ */
+uint64_t drevokas_first_unbacked(const uint8_t *record, size_t record_len, const uint8_t *storage, size_t storage_len,
+                                 const uint8_t *keys, size_t keys_len, uint32_t designation, uint32_t from, uint32_t to,
+                                 uint64_t *where);
 
 #ifdef __cplusplus
 }

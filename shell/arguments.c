@@ -71,6 +71,19 @@ int wants_help(int argc, char **argv)
     return 0;
 }
 
+/* Complains that so many operands are given. */
+static int bad_count(const char *sub, const struct usage *u, unsigned count)
+{
+    unsigned least = u->operands - u->optional;
+    const char *how = count < least ? "few" : "many";
+
+    if (u->optional == 0)
+        complain("%s: too %s arguments: %u, and must be %u", sub, how, count, least);
+    else
+        complain("%s: too %s arguments: %u, and must be %u to %u", sub, how, count, least, u->operands);
+    return bad_usage(u);
+}
+
 int sort_arguments(int argc, char **argv, const struct usage *u, struct arguments *a)
 {
     unsigned count = 0;
@@ -91,10 +104,9 @@ int sort_arguments(int argc, char **argv, const struct usage *u, struct argument
             return bad_usage(u);
         i += used;
     }
-    if (count == u->operands)
+    if (count + u->optional >= u->operands && count <= u->operands)
         return GO_ON;
-    complain("%s: too %s arguments: %u, and must be %u", argv[0], count < u->operands ? "few" : "many", count, u->operands);
-    return bad_usage(u);
+    return bad_count(argv[0], u, count);
 }
 
 /* ---- numbers ---- */
@@ -146,6 +158,16 @@ int hex_number(const char *text, uint64_t most, uint64_t *value)
         }
     }
     return number(text, end, 16, most, value);
+}
+
+int marked_number(const char *text, uint32_t *value)
+{
+    uint64_t n = 0;
+    int is_hex = text[0] == 'x' || text[0] == 'X' || (text[0] == '0' && (text[1] == 'x' || text[1] == 'X'));
+    int result = is_hex ? hex_number(text, 0xffffffffu, &n) : decimal_number(text, 0xffffffffu, &n);
+
+    *value = (uint32_t)n;
+    return result;
 }
 
 /* Whether the digits might be meant in binary, by a prefix that elsewhere means it. */

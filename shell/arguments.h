@@ -17,13 +17,13 @@
 struct usage {
     const char *synopsis;               /* without the program's name */
     const char *help, *more;            /* the rest of what --help prints; more may be NULL */
-    unsigned operands;                  /* so many, no fewer and no more */
+    unsigned operands, optional;        /* so many, no more; of them so many may be left out at the end */
     const char *options[MOST_OPTIONS];  /* names with their dashes, or NULL; with a value: "--name VALUE", "--name=VALUE" */
 };
 
 /* What it is given. */
 struct arguments {
-    const char *operands[MOST_OPERANDS];
+    const char *operands[MOST_OPERANDS];    /* NULL for one that is not given */
     const char *values[MOST_OPTIONS];   /* of the options, in the order of struct usage; NULL for one that is not given */
 };
 
@@ -45,6 +45,9 @@ int decimal_number(const char *text, uint64_t most, uint64_t *value);
 /* A hexadecimal number from 0 to most: digits, 0x and digits, X'digits', or X and digits, which a shell makes of X'digits'.
    Returns 0, or -1. */
 int hex_number(const char *text, uint64_t most, uint64_t *value);
+
+/* A number of 32 bits, decimal, or hexadecimal if it is marked by 0x or X. Returns 0, or -1. */
+int marked_number(const char *text, uint32_t *value);
 
 /* An address of 32 bits, as hex_number takes it. Complains of any other text, and of one that could be meant in binary. */
 int address_operand(const char *text, uint32_t *address);

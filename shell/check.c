@@ -14,7 +14,7 @@ static const struct usage usage = {
     "  R NUMBER: SENTENCE   refused, and why\n"
     "The case file's numbers are no part of this: run refuses a time per unit over 1048576 (R 6).\n\n"
     "Exit status: 0, 1 if the check is refused, 2 for bad usage or a file that cannot be read.\n",
-    NULL, 1, {NULL},
+    NULL, 1, 0, {NULL},
 };
 
 static int answer(const struct case_file *c)

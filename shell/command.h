@@ -5,6 +5,7 @@
 #define STATUS_GOOD 0
 #define STATUS_REFUSED 1    /* the answer is a refusal */
 #define STATUS_BAD 2        /* bad usage or file */
+#define STATUS_FOUND 3      /* the page that is looked for is there; of unbacked alone */
 
 int command_run(int argc, char **argv);
 int command_check(int argc, char **argv);
@@ -13,6 +14,7 @@ int command_explain(int argc, char **argv);
 int command_make(int argc, char **argv);
 int command_trace(int argc, char **argv);
 int command_desk(int argc, char **argv);
+int command_unbacked(int argc, char **argv);
 
 /* "drevokas: " and the message, with a newline, on standard error. */
 void complain(const char *format, ...) __attribute__((format(printf, 1, 2)));

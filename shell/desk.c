@@ -8,6 +8,7 @@
 #include "command.h"
 #include "desk_words.h"
 #include "interrupt.h"
+#include "page_operand.h"
 
 #define MOST_NAME 32        /* room for "desk" and an action, and for the numbers of two pages */
 #define WORD_WIDTH 6        /* columns of "before", "after" and "valid" */
@@ -45,7 +46,7 @@
     "Exit status: 0; 1 if it is refused, or a page is not changed for code 32; 2 for bad usage or a\n" \
     "file that cannot be read or written. With 1 and 2 OUT is as it was.\n"
 
-static const struct usage usage = {ADD AND REMOVE AND PROTECT AND LIST, HELP, NULL, 0, {NULL}};
+static const struct usage usage = {ADD AND REMOVE AND PROTECT AND LIST, HELP, NULL, 0, 0, {NULL}};
 
 /* ---- the library's answers ---- */
 
@@ -108,20 +109,6 @@ static void print_change(FILE *to, const struct desk_change *d, const struct cas
     print_valid(to, WORD_WIDTH, valid, e.pages);
 }
 
-/* The line of an answer other than done. */
-static void print_no(FILE *to, const struct case_file *c, uint64_t answer)
-{
-    unsigned number = (unsigned)drevokas_number(answer);
-    char text[SENTENCE];
-
-    if (drevokas_kind(answer) == DREVOKAS_REFUSED) {
-        fprintf(to, "R %u\n", number);
-        return;
-    }
-    entry_sentence(c->record, text, sizeof text);
-    fprintf(to, "I %u: %s\n", number, text);
-}
-
 /* One page, or pages one after the other that are not valid; their numbers take this width. */
 static void print_pages(const struct case_file *c, uint32_t from, uint32_t last, uint32_t frame, int width)
 {
@@ -161,57 +148,12 @@ static void print_list(const struct case_file *c, const uint32_t *frames, uint32
 
 /* ---- operands ---- */
 
-/* A page as it is asked for. */
-struct asked_page {
-    enum { BY_NUMBER, BY_GUEST_ADDRESS, BY_HOST_ADDRESS } by;
-    uint32_t value;
-};
-
-/* A number of 32 bits, decimal or marked as hexadecimal. Returns 0, or -1. */
-static int marked_number(const char *text, uint32_t *value)
-{
-    uint64_t n = 0;
-    int is_hex = text[0] == 'x' || text[0] == 'X' || (text[0] == '0' && (text[1] == 'x' || text[1] == 'X'));
-    int result = is_hex ? hex_number(text, 0xffffffffu, &n) : decimal_number(text, 0xffffffffu, &n);
-
-    *value = (uint32_t)n;
-    return result;
-}
-
-static int page_operand(const char *text, struct asked_page *p)
-{
-    static const char guest[] = "guest:", host[] = "host:";
-
-    p->by = BY_NUMBER;
-    if (strncmp(text, guest, sizeof guest - 1) == 0) {
-        p->by = BY_GUEST_ADDRESS;
-        return address_operand(text + sizeof guest - 1, &p->value);
-    }
-    if (strncmp(text, host, sizeof host - 1) == 0) {
-        p->by = BY_HOST_ADDRESS;
-        return address_operand(text + sizeof host - 1, &p->value);
-    }
-    if (marked_number(text, &p->value) == 0)
-        return GO_ON;
-    complain("page %s: must be a number of 32 bits, decimal or 0x and hexadecimal digits, or an address in the page, guest: or "
-             "host: and hexadecimal digits", text);
-    return STATUS_BAD;
-}
-
 static int frame_operand(const char *text, uint32_t *frame)
 {
     if (text == NULL || marked_number(text, frame) == 0)
         return GO_ON;
     complain("frame %s: must be a number of 32 bits, decimal or 0x and hexadecimal digits", text);
     return STATUS_BAD;
-}
-
-/* A host address below the extent, whose number is taken modulo 2^32, gives a page that no extent has. */
-static uint32_t page_number(const struct case_file *c, const struct asked_page *p)
-{
-    if (p->by == BY_NUMBER)
-        return p->value;
-    return (p->by == BY_GUEST_ADDRESS ? p->value : p->value - extent_of(c).origin) / FRAME_BYTES;
 }
 
 /* ---- the actions ---- */
@@ -244,7 +186,8 @@ static int conclude(const struct desk_change *d, struct case_file *c, const char
         desk_refusal((unsigned)drevokas_number(answer), c, d, text);
         complain("%s: refused, R %u: %s", name, (unsigned)drevokas_number(answer), text);
     } else {
-        complain("%s: the page is not changed: code %u, the record is not valid for entry", name, (unsigned)drevokas_number(answer));
+        complain("%s: the page is not changed: code %u, the record is not valid for entry", name,
+                 (unsigned)drevokas_number(answer));
     }
     return STATUS_REFUSED;
 }
@@ -328,10 +271,10 @@ static int run_list(const struct action *k, int argc, char **argv)
 }
 
 static const struct action actions[] = {
-    {"add", run_change, {ADD, HELP, NULL, 3, {"--after"}}, DESK_ADD},
-    {"remove", run_change, {REMOVE, HELP, NULL, 2, {"--after"}}, DESK_REMOVE},
-    {"protect", run_change, {PROTECT, HELP, NULL, 2, {"--after"}}, DESK_PROTECT},
-    {"list", run_list, {LIST, HELP, NULL, 1, {NULL}}, DESK_ADD},
+    {"add", run_change, {ADD, HELP, NULL, 3, 0, {"--after"}}, DESK_ADD},
+    {"remove", run_change, {REMOVE, HELP, NULL, 2, 0, {"--after"}}, DESK_REMOVE},
+    {"protect", run_change, {PROTECT, HELP, NULL, 2, 0, {"--after"}}, DESK_PROTECT},
+    {"list", run_list, {LIST, HELP, NULL, 1, 0, {NULL}}, DESK_ADD},
 };
 
 #define ACTIONS (sizeof actions / sizeof *actions)

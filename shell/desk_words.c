@@ -147,15 +147,19 @@ int add_clash(const struct extent *e, const struct desk_change *d, char text[SEN
 
 /* ---- the other refusals ---- */
 
+static void add_extent(const struct extent *e, char text[SENTENCE])
+{
+    add(text, "the extent, which has pages 0 to %lu, at host addresses %08lx-%08lx", (unsigned long)e->pages - 1,
+        (unsigned long)e->origin, (unsigned long)e->origin + e->pages * FRAME_BYTES - 1);
+}
+
 /* Refusal 10. Returns 0 if the page's entry is in reach. */
 static int add_out_of_reach(const struct extent *e, uint32_t page, char text[SENTENCE])
 {
-    uint32_t end = e->origin + e->pages * FRAME_BYTES - 1;
-
-    if (page >= e->pages)
-        add(text, "page %lu is outside the extent, which has pages 0 to %lu, at host addresses %08lx-%08lx",
-            (unsigned long)page, (unsigned long)e->pages - 1, (unsigned long)e->origin, (unsigned long)end);
-    else if (!page_of_extent(e, page).page_read) {
+    if (page >= e->pages) {
+        add(text, "page %lu is outside ", (unsigned long)page);
+        add_extent(e, text);
+    } else if (!page_of_extent(e, page).page_read) {
         add(text, "the entry of page %lu is out of reach: ", (unsigned long)page);
         add_host_entry(e->c, e->origin + page * FRAME_BYTES, text);
     }
@@ -209,4 +213,39 @@ void desk_refusal(unsigned number, const struct case_file *c, const struct desk_
     text[0] = '\0';
     if (!add_cause_of(number, &e, d, text))
         refusal_sentence(number, c, text, SENTENCE);
+}
+
+/* Refusal 16. Returns 0 if the range is one of the extent. */
+static int add_bad_range(const struct extent *e, const struct page_range *r, char text[SENTENCE])
+{
+    unsigned long from = r->from, to = r->to;
+
+    if (to > e->pages || from > e->pages) {
+        add(text, "%s, page %lu, is past the end of ", to > e->pages ? "TO" : "FROM", to > e->pages ? to : from);
+        add_extent(e, text);
+    } else if (from > to)
+        add(text, "FROM, page %lu, is above TO, page %lu", from, to);
+    return text[0] != '\0';
+}
+
+void search_refusal(unsigned number, const struct case_file *c, const struct page_range *r, char text[SENTENCE])
+{
+    struct extent e = extent_of(c);
+
+    text[0] = '\0';
+    if (number != DREVOKAS_REFUSAL_RANGE || !add_bad_range(&e, r, text))
+        refusal_sentence(number, c, text, SENTENCE);
+}
+
+void print_no(FILE *to, const struct case_file *c, uint64_t answer)
+{
+    unsigned number = (unsigned)drevokas_number(answer);
+    char text[SENTENCE];
+
+    if (drevokas_kind(answer) == DREVOKAS_REFUSED) {
+        fprintf(to, "R %u\n", number);
+        return;
+    }
+    entry_sentence(c->record, text, sizeof text);
+    fprintf(to, "I %u: %s\n", number, text);
 }

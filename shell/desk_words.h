@@ -1,6 +1,8 @@
-/* The page desk in words: what a page entry says, and why a change is refused. */
+/* The page desk in words: what a page entry says, and why a call is refused. */
 #ifndef DESK_WORDS_H
 #define DESK_WORDS_H
+
+#include <stdio.h>
 
 #include "walk.h"
 #include "words.h"
@@ -20,6 +22,11 @@ struct desk_change {
     uint32_t frame;     /* of a page that is added */
 };
 
+/* Pages from one up to, and not with, another. */
+struct page_range {
+    uint32_t from, to;
+};
+
 struct extent extent_of(const struct case_file *c);
 
 /* What the walk of the host's tables finds for a page of the extent. */
@@ -33,5 +40,11 @@ int add_clash(const struct extent *e, const struct desk_change *d, char text[SEN
 
 /* Why the library refuses a change with this number. What page, frame and tables show is said where it bears the number out. */
 void desk_refusal(unsigned number, const struct case_file *c, const struct desk_change *d, char text[SENTENCE]);
+
+/* The same of the search for a page that is not valid. */
+void search_refusal(unsigned number, const struct case_file *c, const struct page_range *r, char text[SENTENCE]);
+
+/* Prints the line of a refusal or of an entry that fails: "R 10", "I 32: extent is 0 blocks, and must be 1 at least". */
+void print_no(FILE *to, const struct case_file *c, uint64_t answer);
 
 #endif

@@ -30,7 +30,7 @@ static const struct usage usage = {
     "  --pages N        list the pages in N lines at most, 0 to 524288; 64 if nothing is said\n\n"
     "Exit status: 0, 1 if the file is malformed or a run of it would be refused, 2 for bad usage or a\n"
     "file that cannot be read.\n",
-    NULL, 1, {"--pages"},
+    NULL, 1, 0, {"--pages"},
 };
 
 static void explain_numbers(const struct case_file *c)

@@ -19,6 +19,7 @@ static const struct {
     {"make", "build a case file from its text form", command_make},
     {"trace", "run unit by unit, one line for each", command_trace},
     {"desk", "list the guest's pages; add, remove or protect one", command_desk},
+    {"unbacked", "find the first page that is not valid", command_unbacked},
 };
 
 #define COMMANDS (sizeof commands / sizeof *commands)

@@ -84,7 +84,7 @@ static const char help_on_lines[] =
     "Exit status: 0, 1 if CASE is not a case file, 2 for bad usage, an error in the text, or a file that\n"
     "cannot be read or written.\n";
 
-static const struct usage usage = {"make TEXT [--from CASE] [-o OUT]", help, help_on_lines, 1, {"-o", "--from"}};
+static const struct usage usage = {"make TEXT [--from CASE] [-o OUT]", help, help_on_lines, 1, 0, {"-o", "--from"}};
 
 /* ---- errors ---- */
 

@@ -12,7 +12,7 @@ static const struct usage usage = {
     "All numbers are decimal; UNITS are the units completed. A sentence on standard error says why the\n"
     "run ended, and where; of a host fault also which entry of the host's tables was bad.\n\n"
     RUN_OPTIONS_HELP,
-    NULL, 1, RUN_OPTIONS,
+    NULL, 1, 0, RUN_OPTIONS,
 };
 
 static struct ending run_without_lines(FILE *to, struct case_file *c, uint32_t units, struct course *k)

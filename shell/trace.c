@@ -36,7 +36,7 @@ static const struct usage usage = {
     "If an interception or a host fault ends the run, a line \"exit\" has the instruction at which it did,\n"
     "and the cause. The last line is the one that run prints; the sentence goes to standard error.\n\n"
     RUN_OPTIONS_HELP,
-    NULL, 1, RUN_OPTIONS,
+    NULL, 1, 0, RUN_OPTIONS,
 };
 
 /* Where the lines go, and the case file as it was before what is to be shown. */

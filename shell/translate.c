@@ -24,7 +24,7 @@ static const struct usage usage = {
     "of the host's absolute), and what is wrong with it.\n\n"
     "  --access KIND    fetch (an operand; if nothing is said), store, or instruction\n\n"
     "Exit status: 0, 1 if it is refused, 2 for bad usage or a file that cannot be read.\n",
-    NULL, 2, {"--access"},
+    NULL, 2, 0, {"--access"},
 };
 
 /* The access kind of this name; fetch for NULL. */

@@ -57,6 +57,7 @@ static const struct word refusals[] = {
     {13, "the frame is outside the storage"},
     {14, "after it an entry that describes the extent would lie in a guest frame, or the page's entry serves twice"},
     {15, "the workspace is shorter than the extent's pages"},
+    {16, "the pages asked about end before they begin, or past the extent"},
 };
 
 static const char *look_up(const struct word *words, size_t count, unsigned number)

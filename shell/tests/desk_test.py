@@ -11,7 +11,6 @@ import itertools
 import os
 import random
 import re
-import resource
 import shutil
 import signal
 import struct
@@ -19,14 +18,12 @@ import subprocess
 import sys
 
 sys.dont_write_bytecode = True
-import tools  # noqa: E402
-from tools import COMMAND, FRAME, INVALID, MALFORMED, Tables, expect, read, report, write  # noqa: E402
+import desk_tools  # noqa: E402
+from desk_tools import ENDS, FILES, PROTECTED, Extent, entry_answer, guest, made, random_case, says  # noqa: E402
+from tools import COMMAND, FRAME, INVALID, expect, read, report, write  # noqa: E402
 
 FAULTS, FOLDER = (os.path.abspath(name) for name in sys.argv[2:4])
-FILES = os.path.join(os.path.dirname(os.path.abspath(__file__)), "../../tests/cases/files")
-PROTECTED = 0x200
 DONE = {"add": "added", "remove": "removed", "protect": "protected"}
-ENDS = (signal.SIGHUP, signal.SIGINT, signal.SIGTERM)
 RANDOM = 800  # guests
 FEW = 10  # each answer is to be found so often
 GUEST = """psw.address = start
@@ -44,47 +41,18 @@ idle psw wait=1, address=start
 """
 r = random.Random(7095)
 seen = collections.Counter()  # answers, by action and number; 0 for one that is done
-checked = {}  # what check says, by record
 
 
-def call(*arguments, faults=None, text=None, **options):
+def call(*arguments, faults=None, **options):
     """Exit status, standard output and standard error."""
-    environment = dict(os.environ)
-    if faults:
-        environment.update({f"FAULT_{name}": str(fault) for name, fault in faults.items()}, LD_PRELOAD=FAULTS)
-    streams = {"stdout": subprocess.PIPE, "stderr": subprocess.PIPE, **options}
-    streams.update({"stdin": subprocess.DEVNULL} if text is None else {"input": text})
-    p = subprocess.run([COMMAND, *arguments], env=environment, timeout=60, preexec_fn=prepare, **streams)
-    return p.returncode, p.stdout or b"", (p.stderr or b"").decode()
-
-
-def prepare():
-    """In the new process: signals as a shell's foreground job has them, and no core files."""
-    resource.setrlimit(resource.RLIMIT_CORE, (0, 0))
-    signal.pthread_sigmask(signal.SIG_SETMASK, ())
-    for number in (*ENDS, signal.SIGPIPE):
-        signal.signal(number, signal.SIG_DFL)
-
-
-def made(text):
-    status, out, err = tools.call("make", "-", text=text.encode())
-    expect(status == 0, f"{text}: {err}")
-    return out
+    environment = {f"FAULT_{name}": str(fault) for name, fault in (faults or {}).items()}
+    return desk_tools.call(*arguments, environment=dict(environment, LD_PRELOAD=FAULTS) if faults else None, **options)
 
 
 # The model
 
-class Desk(Tables):
+class Desk(Extent):
     """A case file, and what the desk does with it."""
-
-    def __init__(self, data):
-        super().__init__(data)
-        self.data = data
-        self.first, self.pages = self.field(12, 2) * 16, self.field(14, 2) * 16
-        self.places = [self.entry_at(self.first + page) for page in range(self.pages)]
-
-    def is_valid(self, page):
-        return self.places[page] is not None and not self.word(self.places[page]) & (INVALID | MALFORMED)
 
     def frame(self, page):
         return self.word(self.places[page]) >> 12 & 0x7ffff if self.is_valid(page) else None
@@ -150,15 +118,6 @@ class Desk(Tables):
             lines.append(f"{numbers:{width}}  {page * FRAME:08x}-{last * FRAME + FRAME - 1:08x}  {what}\n")
             page = last + 1
         return "".join(lines) + f"{'valid':{width}}  {self.valid()} of {self.pages} pages\n"
-
-
-def entry_answer(name):
-    """What check says of the record, if it is not good: "R 2" and its sentence, or "I 32" and its sentence."""
-    record = Tables(read(name)).record
-    if record not in checked:
-        line = tools.call("check", name)[1].decode().rstrip("\n")
-        checked[record] = None if line == "good" else line.split(": ", 1)
-    return checked[record]
 
 
 # Every sentence of refusals 10 to 14
@@ -230,20 +189,6 @@ def lists(name, what):
 
 
 # Guests that are made for it
-
-TABLES = "designation = X'1000'\nextent = 18\n"  # pages 0 to 287: host segments 0 and 1
-WORDS = {0x1000: 0x2000, 0x1004: 0x2400, 0x2000: 0x5000, 0x2004: 0x6200, 0x2008: 0x400, 0x200C: 0x9000, 0x2010: 0x80000900,
-         0x2014: 0x5A00, 0x2018: 0x7C33, 0x201C: 0x7055, **{at: 0x400 for at in range(0x2020, 0x2040, 4)},
-         **{at: 0x400 for at in range(0x2400, 0x2440, 4)}}
-
-
-def guest(settings="", words=None):
-    """A case file: settings of which those after the first win, and words by their places in storage."""
-    lines = {line.split("=")[0].strip(): line for line in (TABLES + settings).split("\n") if line}
-    contents = sorted({**WORDS, **(words or {})}.items())
-    contents = [f"at frame {at >> 12} X'{at & 0xFFF:X}'\nword X'{word:X}'" for at, word in contents]
-    return made("\n".join([*lines.values(), *contents]) + "\n")
-
 
 def test_actions():
     """Every action on every kind of entry, with both records."""
@@ -355,37 +300,10 @@ def test_entry():
 
 # Pseudo-random guests
 
-def random_entry():
-    bits = r.choice([0, 0, 0, 0, INVALID, INVALID, PROTECTED, 0x800, 0x100, 0x80000000, 0x55])
-    return r.randrange(9) * FRAME | bits
-
-
-def random_case():
-    """Two segments whose tables are in frame 0, apart from the guest, or anywhere, often on one another."""
-    frames, tidy = r.choice([2, 4, 8]), r.randrange(2)
-    storage = bytearray(frames * FRAME)
-    segment = 0 if tidy else r.randrange(frames) * FRAME
-    for at in segment, segment + 4:
-        table = (0 if tidy else r.randrange(frames) * FRAME) + r.choice([0x40, 0x400, 0]) + r.choice([0, 0, 1, 15])
-        struct.pack_into(">I", storage, at, table | r.choice([0] * 8 + [0x20, 0x80000000]))
-        for page in range(1 if table < 16 else 0, 16):
-            entry = random_entry() if r.randrange(3) else INVALID
-            struct.pack_into(">I", storage, (table & ~63) + page * 4, entry | FRAME if tidy else entry)
-    origin = r.choice([0, 0, 15, 16])
-    extent = r.choice([1, 1, 2, 17, 32])
-    version = r.choice([1, 2])
-    record = bytearray([200, 208][version - 1])
-    struct.pack_into(">HBBB", record, 0, len(record), version, r.randrange(256), 8 if version == 1 else r.choice([4, 8]))
-    struct.pack_into(">IHH", record, 8, r.choice([0, FRAME]), origin, extent)
-    body = (struct.pack(">BIQIH", 1, segment | r.choice([0, 0, 1]), 0, 1, 1) + record + bytes([frames]) +
-            bytes(r.randrange(256) for _ in range(frames)) + storage)
-    return struct.pack(">I", len(body)) + body
-
-
 def test_random():
     seen.clear()
     for number in range(RANDOM):
-        data = random_case()
+        data = random_case(r)
         desk = Desk(data)
         action = r.choice(list(DONE))
         page = r.choice([r.randrange(16), r.randrange(desk.pages), r.randrange(desk.pages + 1)])
@@ -437,12 +355,6 @@ def test_operands():
                  f"address {operand}: must be a hexadecimal number of 32 bits")
     says(["desk", "add", name, "guest:0b10", "5", "--after", "out"], "address 0b10: is it hexadecimal, 0x0b10, or binary?")
     expect(not os.path.exists("out"), "bad operands: a file is written")
-
-
-def says(arguments, message, **options):
-    """Nothing is printed, and this is said; the exit status is 2."""
-    status, out, err = call(*arguments, **options)
-    expect((status, out) == (2, b"") and message in err, f"{arguments}: {status}, {out[:80]}, {err}; and not {message}")
 
 
 def test_usage():

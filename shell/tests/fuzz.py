@@ -1,14 +1,15 @@
 #!/usr/bin/env python3
 """fuzz.py COMMAND FOLDER COUNT [SEED]: COUNT damaged texts through `make`, half of them with `--from` and a damaged case file;
-COUNT damaged case files through `explain`, `run`, `translate` and `desk`.
+COUNT damaged case files through `explain`, `run`, `translate`, `desk` and `unbacked`.
 
 Each call must end by itself within a second of CPU time, by no signal, with exit status 0, 1 or 2, and with a message on
-standard error, or of translate with its line, if that is not 0. A file is left by make only with status 0, and is then a case
-file. Prints the seed, each failure with the name of the input, which is kept in FOLDER, and a count; fails if there is a
-failure."""
+standard error, or of translate with its line, if that is not 0; of unbacked with its line alone if that is 3. A file is left by
+make only with status 0, and is then a case file. Prints the seed, each failure with the name of the input, which is kept in
+FOLDER, and a count; fails if there is a failure."""
 import glob
 import os
 import random
+import re
 import resource
 import struct
 import subprocess
@@ -18,6 +19,7 @@ COMMAND, FOLDER, COUNT = os.path.abspath(sys.argv[1]), sys.argv[2], int(sys.argv
 SEED = int(sys.argv[4]) if len(sys.argv) > 4 else random.SystemRandom().randrange(2**32)
 ROOT = os.path.join(os.path.dirname(os.path.abspath(__file__)), "../..")
 SECOND, PATIENCE = 1, 20  # of CPU time, and of time on a busy machine
+FOUND = 3  # the exit status of unbacked where there is a page
 STRANGE = 99  # the exit status of a sanitizer's report
 ENVIRONMENT = dict(os.environ, ASAN_OPTIONS=f"exitcode={STRANGE}", UBSAN_OPTIONS=f"exitcode={STRANGE}")
 
@@ -46,7 +48,10 @@ def call(name, *arguments):
     except subprocess.TimeoutExpired:
         fail(f"{arguments[0]} did not end by itself", name)
         return None
-    if p.returncode not in (0, 1, 2):
+    if p.returncode == FOUND and arguments[0] == "unbacked":
+        if p.stderr or not re.match(rb"\d+  [0-9a-f]{8}-[0-9a-f]{8}  not valid, [^\n]+\n\Z", p.stdout):
+            fail(f"unbacked found a page, and printed {p.stdout[:200]}, {p.stderr[:200]}", name)
+    elif p.returncode not in (0, 1, 2):
         fail(f"{arguments[0]} ended with {p.returncode}: {p.stderr[:2000].decode(errors='replace')}", name)
     elif p.returncode != 0 and not (p.stderr + (p.stdout if arguments[0] == "translate" else b"")).strip():
         fail(f"{arguments[0]} ended with {p.returncode} and no message", name)
@@ -226,9 +231,10 @@ def fuzz_case(cases, i):
     before = failures
     address = f"{r.randrange(2**32) >> r.choice([0, 8, 16, 20]):x}"
     page, frame, out = r.choice(["0", "1", "2", "guest:" + address]), str(r.randrange(9)), os.path.join(FOLDER, "desk.out")
+    pages = r.choice([[], [page], [page, r.choice(["3", "16", "host:" + address])]])
     for arguments in (["explain", name], ["run", name], ["translate", name, address, "--access", r.choice(ACCESSES)],
                       ["desk", "list", name], ["desk", "add", name, page, frame, "--after", out],
-                      ["desk", r.choice(["remove", "protect"]), name, page, "--after", out]):
+                      ["desk", r.choice(["remove", "protect"]), name, page, "--after", out], ["unbacked", name, *pages]):
         if call(name, *arguments) == 2:
             fail(f"{arguments[0]} calls a damaged file unreadable", name)
     if failures == before:

@@ -1,6 +1,6 @@
 #!/bin/sh
-# Runs make.sh; then damaged texts through make and damaged case files through explain, run, translate and desk, in a build with
-# gcc's sanitizers where they work. SEED repeats a run, COUNT says how many of each. Fails if anything fails.
+# Runs make.sh; then damaged texts through make and damaged case files through explain, run, translate, desk and unbacked, in a
+# build with gcc's sanitizers where they work. SEED repeats a run, COUNT says how many of each. Fails if anything fails.
 set -eu
 . "$(dirname "$0")/../../tools/plain.sh"
 cd "$(dirname "$0")/../.."

@@ -1,9 +1,9 @@
 #!/bin/sh
 # Builds the command and tests it: every sub-command, good and bad input, messages and exit status; all kept case files; runs
 # that are cut and resumed; traces; files that cannot be written; signals; the table entries that are named where a translation
-# fails; the page desk; the shell's own statement of the rules against the library; then, under valgrind if it is there, every
-# sub-command that reads a case file on every kept one; and damaged files. Prints each failure, and a count. Fails if anything
-# fails; a command that does not end by itself is ended, and has failed.
+# fails; the page desk, and the first page that is not valid; the shell's own statement of the rules against the library; then,
+# under valgrind if it is there, every sub-command that reads a case file on every kept one; and damaged files. Prints each
+# failure, and a count. Fails if anything fails; a command that does not end by itself is ended, and has failed.
 set -eu
 . "$(dirname "$0")/../../tools/plain.sh"
 cd "$(dirname "$0")/../.."
@@ -92,7 +92,7 @@ test_usage() {
     says 2 '' 'no sub-command'
     says 2 '' 'no sub-command fly' fly
     says 2 '' 'no sub-command -x' -x
-    for sub in run check translate explain make trace desk; do
+    for sub in run check translate explain make trace desk unbacked; do
         call "$sub" --help
         [ "$status" -eq 0 ] && grep -q "^usage: drevokas $sub " "$OUT/out" && [ ! -s "$OUT/err" ] || fail "$sub --help"
         within_100 "$sub --help"
@@ -199,6 +199,7 @@ test_damaged() {
         says 1 'R 9' 'not a case file: the' trace "$OUT/cut.in"
         says 1 '' 'not a case file: the' explain "$OUT/cut.in"
         says 1 'R 9' 'not a case file: the' desk list "$OUT/cut.in"
+        says 1 'R 9' 'not a case file: the' unbacked "$OUT/cut.in"
     done
     { cat "$FILES/ar.in"; echo; } > "$OUT/long.in"
     says 1 'R 9' 'the length in bytes 0-3 is not the number of bytes that follow it' run "$OUT/long.in"
@@ -277,7 +278,7 @@ test_unwritable() {
     [ "$(ls -A "$OUT/folder")" = old ] || fail "left behind: $(ls -A "$OUT/folder")"
     same "$OUT/folder/old" "$FILES/ar.in" 'what was there'
     [ -z "$(find "$OUT" -name '*.??????')" ] || fail "left behind: $(find "$OUT" -name '*.??????')"
-    for sub in run check explain trace; do
+    for sub in run check explain trace unbacked; do
         status=0
         drevokas "$sub" "$FILES/budget_7.in" > /dev/full 2> "$OUT/err" || status=$?
         [ "$status" -eq 2 ] && grep -q 'standard output cannot be written' "$OUT/err" || fail "$sub > /dev/full"
@@ -441,8 +442,11 @@ timeout 120 python3 shell/tests/words_test.py "$ROOT/target/bin/drevokas" || fai
 timeout 120 python3 shell/tests/stage_test.py "$ROOT/target/bin/drevokas" || fail shell/tests/stage_test.py
 timeout 300 python3 shell/tests/desk_test.py target/bin/drevokas "$OUT/faults.so" "$OUT/desk" > "$OUT/desk.log" 2>&1 &
 desk=$!
+timeout 300 python3 shell/tests/unbacked_test.py target/bin/drevokas "$OUT/unbacked" > "$OUT/unbacked.log" 2>&1 &
+unbacked=$!
 timeout 300 sh shell/tests/fuzz.sh || fail shell/tests/fuzz.sh
 wait "$desk" || fail shell/tests/desk_test.py
-cat "$OUT/desk.log"
+wait "$unbacked" || fail shell/tests/unbacked_test.py
+cat "$OUT/desk.log" "$OUT/unbacked.log"
 echo "$tests shell tests, $failed failed"
 [ "$failed" -eq 0 ]

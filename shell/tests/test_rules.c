@@ -20,7 +20,8 @@
 #define FEW 500             /* each thing that a walk can find is to be found so often */
 #define AT_ZERO 50          /* and a table entry at address 0 so often */
 #define DESKS 16000         /* pseudo-random hosts whose pages are changed, */
-#define CHANGES 8           /* and changes of each */
+#define CHANGES 8           /* and changes of each, */
+#define SEARCHES 8          /* and searches for a page that is not valid */
 #define RECORDS 200000
 #define PSWS 20000
 
@@ -476,6 +477,61 @@ static void compare_changes(void)
     expect_all_answers();
 }
 
+/* ---- the first page that is not valid ---- */
+
+static unsigned long seen_searches[DREVOKAS_NONE + 1];     /* by the answer's kind */
+
+/* The first page of the range that the shell's walk finds not valid; its end if there is none. */
+static uint32_t first_not_valid(const struct extent *e, const struct page_range *r)
+{
+    uint32_t page = r->from;
+
+    while (page < r->to && page_of_extent(e, page).valid)
+        page++;
+    return page;
+}
+
+/* The library refuses the range that the shell gives a sentence for, and finds the page that the shell's walk does. */
+static void compare_search(const struct case_file *c, const struct page_range *r)
+{
+    struct extent e = extent_of(c);
+    char text[SENTENCE], general[SENTENCE];
+    uint64_t where = UINT64_MAX;
+    uint64_t answer = drevokas_first_unbacked(c->record, record_bytes(c->record), c->storage, (size_t)c->frames * FRAME_BYTES,
+                                              c->keys, c->frames, c->designation, r->from, r->to, &where);
+    uint32_t kind = drevokas_kind(answer), first;
+
+    search_refusal(DREVOKAS_REFUSAL_RANGE, c, r, text);
+    refusal_sentence(DREVOKAS_REFUSAL_RANGE, c, general, sizeof general);
+    expect(kind <= DREVOKAS_NONE, "an answer of no kind", "search", kind);
+    seen_searches[kind <= DREVOKAS_NONE ? kind : 0]++;
+    if (strcmp(text, general) != 0) {
+        expect(kind == DREVOKAS_REFUSED && drevokas_number(answer) == DREVOKAS_REFUSAL_RANGE, text, "search", r->from);
+        return;
+    }
+    first = first_not_valid(&e, r);
+    expect(kind == (first < r->to ? DREVOKAS_GOOD : DREVOKAS_NONE), "a search", "search", r->from);
+    expect(where == (first < r->to ? first : 0), "the page that is found", "search", first);
+}
+
+static void compare_searches(void)
+{
+    static struct case_file c;
+    struct page_range r;
+    unsigned i, j;
+
+    for (i = 0; i < DESKS; i++) {
+        random_desk(&c);
+        for (j = 0; j < SEARCHES; j++) {
+            r.from = random_word() % 2 ? random_word() % 8 : random_word() % (extent_of(&c).pages + 2);
+            r.to = random_word() % 2 ? r.from + random_word() % 4 : random_word() % (extent_of(&c).pages + 2);
+            compare_search(&c, &r);
+        }
+    }
+    expect(seen_searches[DREVOKAS_REFUSED] >= FEW && seen_searches[DREVOKAS_GOOD] >= FEW && seen_searches[DREVOKAS_NONE] >= FEW,
+           "too few of an answer", "search", seen_searches[DREVOKAS_NONE]);
+}
+
 /* ---- entry ---- */
 
 static void random_record(struct case_file *c, int larger)
@@ -676,6 +732,7 @@ int main(int argc, char **argv)
     compare_entries();
     test_no_reason();
     compare_changes();
+    compare_searches();
     compare_records(0);
     compare_records(1);
     compare_psws(0);

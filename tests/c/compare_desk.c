@@ -1,7 +1,7 @@
 /* Compares the page desk with the plain C version and with the words of request 3/12, on pseudo-random tables, and sees that
    every answer of each operation is among them, and each of the three reasons of refusal 14 by itself.
    Usage: compare_desk [cases [seed]] */
-#include "../../bench/plain.h"
+#include "../../bench/plain_desk.h"
 #include "desk_cases.h"
 
 #define CASES 300000ul
@@ -11,7 +11,6 @@
 #define LIST CHANGES
 #define OPERATIONS (CHANGES + 1)
 
-static const struct desk plain_desk = {plain_add_page, plain_remove_page, plain_protect_page, plain_list_pages};
 static const char *const names[OPERATIONS] = {"add", "remove", "protect", "list"};
 
 /* The reasons of refusal 14, as bits. */
@@ -25,18 +24,6 @@ struct tally {
 };
 
 /* ---- request 3/12 by its words ---- */
-
-static int valid_entry(uint32_t entry)
-{
-    return (entry & (BIT(0) | BIT(20) | BIT(21) | BIT(23))) == 0;
-}
-
-static int valid_page(const struct desk_case *c, uint32_t page)
-{
-    uint32_t at = page_at(c, page);
-
-    return at != NOWHERE && valid_entry(get32(c->storage + at));
-}
 
 static uint32_t frame_named(const struct desk_case *c, uint32_t page)
 {
@@ -80,18 +67,6 @@ static unsigned reasons(struct desk_case *c, uint32_t at, uint32_t entry)
         found |= IN_GUEST_FRAME;
     put32(c->storage + at, before);
     return found;
-}
-
-/* The answer of refusals 1 to 4 and 7 and of entry; else good. */
-static uint64_t head_answer(const struct desk_case *c)
-{
-    uint64_t checked = drevokas_check(c->record, c->record_len);
-
-    if (drevokas_kind(checked) == DREVOKAS_REFUSED && drevokas_number(checked) < 3)
-        return checked;
-    if (c->storage_len == 0 || c->storage_len % 4096 != 0)
-        return answer_of(DREVOKAS_REFUSED, 3);
-    return c->storage_len / 4096 != c->keys_len ? answer_of(DREVOKAS_REFUSED, 4) : checked;
 }
 
 /* The answer of a change; the entry and what becomes of it where that is asked. */
@@ -211,13 +186,12 @@ static int compare_one(struct desk_case *c, struct tally *t)
     static struct side sides[2];
     uint8_t record[DREVOKAS_LONG_RECORD_LENGTH];
     size_t record_len = c->record_len;
-    uint32_t operation = one_of(c, OPERATIONS), defects;
+    uint32_t operation = one_of(c, OPERATIONS);
     int same;
 
     next_call(c);
     memcpy(record, c->record, sizeof record);
-    for (defects = one_of(c, 16) ? 0 : 1 + one_of(c, 2); defects > 0; defects--)
-        break_head(c);
+    break_some_heads(c);
     memcpy(sides[0].storage, c->storage, CASE_BYTES);
     memcpy(sides[1].storage, c->storage, CASE_BYTES);
     same = operation == LIST ? compare_list(c, sides, t) : compare_change(c, sides, (enum change)operation, t);
@@ -283,31 +257,24 @@ static int all_reasons(const struct tally *t)
     return all;
 }
 
+static struct tally told;
+
+static int compare_next(struct desk_case *c)
+{
+    return compare_one(c, &told);
+}
+
 int main(int argc, char **argv)
 {
-    unsigned long cases = argc > 1 ? strtoul(argv[1], NULL, 10) : CASES, i;
-    uint64_t seed = argc > 2 ? strtoull(argv[2], NULL, 10) : SEED;
-    static struct desk_case c;
-    static struct tally t;
-
-    printf("seed %llu\n", (unsigned long long)seed);
-    c.random = seed * 0x9e3779b97f4a7c15u + 1;
-    for (i = 0; i < cases; i++) {
-        if (i % CALLS_OF_A_GUEST == 0)
-            next_guest(&c);
-        if (!compare_one(&c, &t)) {
-            printf("different in case %lu\n", i);
-            return 1;
-        }
-    }
-    if (!all_given(&t)) {
+    if (!all_the_same(argc, argv, CASES, SEED, CALLS_OF_A_GUEST, next_guest, compare_next))
+        return 1;
+    if (!all_given(&told)) {
         printf("an answer is missing, or one that an operation cannot give was given\n");
         return 1;
     }
-    if (!all_reasons(&t)) {
+    if (!all_reasons(&told)) {
         printf("a reason of refusal 14 is missing\n");
         return 1;
     }
-    printf("%lu cases the same\n", cases);
     return 0;
 }

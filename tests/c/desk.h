@@ -13,11 +13,14 @@ typedef uint64_t set_function(const uint8_t *, size_t, uint8_t *, size_t, const 
                               uint32_t *);
 typedef uint64_t list_function(const uint8_t *, size_t, const uint8_t *, size_t, const uint8_t *, size_t, uint32_t,
                                uint32_t *, size_t);
+typedef uint64_t first_function(const uint8_t *, size_t, const uint8_t *, size_t, const uint8_t *, size_t, uint32_t,
+                                uint32_t, uint32_t, uint64_t *);
 
 struct desk {
     add_function *add;
     set_function *remove, *protect;
     list_function *list;
+    first_function *first;
 };
 
 /* What every operation is handed. */
@@ -28,7 +31,7 @@ struct handed {
 };
 
 static const struct desk drevokas_desk = {drevokas_add_page, drevokas_remove_page, drevokas_protect_page,
-                                          drevokas_list_pages};
+                                          drevokas_list_pages, drevokas_first_unbacked};
 
 /* The frame is for adding alone. */
 static inline uint64_t change_page(const struct desk *d, const struct handed *h, enum change change, uint32_t page,
@@ -46,6 +49,12 @@ static inline uint64_t list_pages(const struct desk *d, const struct handed *h, 
 {
     return d->list(h->record, h->record_len, h->storage, h->storage_len, h->keys, h->keys_len, h->designation, frames,
                    count);
+}
+
+static inline uint64_t first_unbacked(const struct desk *d, const struct handed *h, uint32_t from, uint32_t to, uint64_t *where)
+{
+    return d->first(h->record, h->record_len, h->storage, h->storage_len, h->keys, h->keys_len, h->designation, from, to,
+                    where);
 }
 
 /* What a change that is done makes of an entry, and of the number of valid pages. */
@@ -139,6 +148,27 @@ static inline uint64_t listed(uint32_t valid)
     return answer_of(DREVOKAS_GOOD, 0) | valid;
 }
 
+/* The first unbacked page is answered as expected, with *where as expected, and every byte is left, also those on both sides of
+   *where. */
+static inline void expect_first_at(const char *file, int line, struct machine *m, uint32_t from, uint32_t to,
+                                   uint64_t expected, uint64_t expected_where)
+{
+    uint64_t *where = (uint64_t *)block_of(3 * sizeof *where), answer;
+    struct handed h = handed_of(m);
+    char what[200];
+
+    where[0] = where[1] = where[2] = UNTOUCHED;
+    remember_all(m);
+    answer = first_unbacked(&drevokas_desk, &h, from, to, where + 1);
+    sprintf(what, "first unbacked from %lx to %lx: %016llx at %llx, not %016llx at %llx", (unsigned long)from,
+            (unsigned long)to, (unsigned long long)answer, (unsigned long long)where[1], (unsigned long long)expected,
+            (unsigned long long)expected_where);
+    expect_at(file, line, answer == expected && where[1] == expected_where, what);
+    expect_at(file, line, where[0] == UNTOUCHED && where[2] == UNTOUCHED, "the words around *where");
+    expect_at(file, line, all_unchanged(m), "first unbacked leaves every byte");
+    free(where);
+}
+
 #define DONE(m, change, page, frame, at) \
     expect_change_at(__FILE__, __LINE__, m, change, page, frame, answer_of(DREVOKAS_GOOD, 0), at)
 #define CHANGE_REFUSED(m, change, page, frame, number) \
@@ -153,5 +183,13 @@ static inline uint64_t listed(uint32_t valid)
     expect_list_at(__FILE__, __LINE__, m, count, answer_of(DREVOKAS_REFUSED, number), NULL, 0)
 #define LIST_INVALID(m, count) \
     expect_list_at(__FILE__, __LINE__, m, count, answer_of(DREVOKAS_INTERCEPTED, DREVOKAS_CODE_VALIDITY), NULL, 0)
+#define FINDS(m, from, to, page) \
+    expect_first_at(__FILE__, __LINE__, m, from, to, answer_of(DREVOKAS_GOOD, 0), page)
+#define FINDS_NONE(m, from, to) \
+    expect_first_at(__FILE__, __LINE__, m, from, to, answer_of(DREVOKAS_NONE, 0), 0)
+#define FIRST_REFUSED(m, from, to, number) \
+    expect_first_at(__FILE__, __LINE__, m, from, to, answer_of(DREVOKAS_REFUSED, number), UNTOUCHED)
+#define FIRST_INVALID(m, from, to) \
+    expect_first_at(__FILE__, __LINE__, m, from, to, answer_of(DREVOKAS_INTERCEPTED, DREVOKAS_CODE_VALIDITY), 0)
 
 #endif

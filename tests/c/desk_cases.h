@@ -291,6 +291,15 @@ static inline void break_head(struct desk_case *c)
     }
 }
 
+/* One or two of them, now and then. */
+static inline void break_some_heads(struct desk_case *c)
+{
+    uint32_t defects;
+
+    for (defects = one_of(c, 16) ? 0 : 1 + one_of(c, 2); defects > 0; defects--)
+        break_head(c);
+}
+
 /* A page whose entry serves twice, where one is found; else any. */
 static inline uint32_t some_page(struct desk_case *c)
 {
@@ -326,6 +335,58 @@ static inline void next_call(struct desk_case *c)
     c->frame = some_frame(c);
     c->valid = one_of(c, 4) ? desk_random(c) : one_of(c, 3) - 1;
     c->count = one_of(c, 4) ? c->pages + one_of(c, 3) : c->pages - one_of(c, c->pages + 1);
+}
+
+/* ---- by the words of the requests ---- */
+
+static inline int valid_entry(uint32_t entry)
+{
+    return (entry & (BIT(0) | BIT(20) | BIT(21) | BIT(23))) == 0;
+}
+
+static inline int valid_page(const struct desk_case *c, uint32_t page)
+{
+    uint32_t at = page_at(c, page);
+
+    return at != NOWHERE && valid_entry(get32(c->storage + at));
+}
+
+/* The answer of refusals 1 to 4 and 7 and of entry; else good. */
+static inline uint64_t head_answer(const struct desk_case *c)
+{
+    uint64_t checked = drevokas_check(c->record, c->record_len);
+
+    if (drevokas_kind(checked) == DREVOKAS_REFUSED && drevokas_number(checked) < 3)
+        return checked;
+    if (c->storage_len == 0 || c->storage_len % 4096 != 0)
+        return answer_of(DREVOKAS_REFUSED, 3);
+    return c->storage_len / 4096 != c->keys_len ? answer_of(DREVOKAS_REFUSED, 4) : checked;
+}
+
+/* Puts so many cases to the test, with new tables every `calls` of them; says the seed, and where a case differs. Usage of the
+   program: [cases [seed]] */
+static inline int all_the_same(int argc, char **argv, unsigned long cases, uint64_t seed, unsigned long calls,
+                               void (*next)(struct desk_case *), int (*compare)(struct desk_case *))
+{
+    static struct desk_case c;
+    unsigned long i;
+
+    if (argc > 1)
+        cases = strtoul(argv[1], NULL, 10);
+    if (argc > 2)
+        seed = strtoull(argv[2], NULL, 10);
+    printf("seed %llu\n", (unsigned long long)seed);
+    c.random = seed * 0x9e3779b97f4a7c15u + 1;
+    for (i = 0; i < cases; i++) {
+        if (i % calls == 0)
+            next(&c);
+        if (!compare(&c)) {
+            printf("different in case %lu\n", i);
+            return 0;
+        }
+    }
+    printf("%lu cases the same\n", cases);
+    return 1;
 }
 
 #endif

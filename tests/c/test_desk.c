@@ -1,24 +1,6 @@
-/* Tests of the page desk against document 01 and request 3/12. Refusals are written as their numbers. */
-#include "desk.h"
-#include "ways.h"
-
-#define NO_PAGE 0xffffffffu
-
-static void set_word(struct machine *m, size_t at, uint32_t value)
-{
-    put32(m->storage.at + at, value);
-}
-
-static void set_half_field(struct machine *m, size_t at, uint32_t value)
-{
-    put16(m->record.at + at, value);
-}
-
-static void set_extent(struct machine *m, uint32_t origin, uint32_t extent)
-{
-    set_half_field(m, AT_ORIGIN, origin);
-    set_half_field(m, AT_EXTENT, extent);
-}
+/* Tests of the page desk against document 01 and request 3/12. Refusals are written as their numbers. Where one is for every
+   operation, that of request 4/12 is tried here too; test_unbacked.c has its other tests. */
+#include "desk_guests.h"
 
 /* ---- the header ---- */
 
@@ -32,47 +14,7 @@ static void test_header(void)
     EXPECT(drevokas_valid_pages(0xffffffff00000000u) == 0);
 }
 
-/* ---- a guest with origin 15 and extent 2 ---- */
-
-/* Its 32 pages are the last sixteen of host segment 0 and the first sixteen of segment 1. Frame 1 has the segment table, frames
-   2 and 3 a page table each; frames 12 to 15 are free. */
-#define PAGES 32u
-#define FRAMES 16u
-#define SEGMENT_0_AT 0x1000u
-#define SEGMENT_1_AT 0x1004u
-#define SEGMENT_2_AT 0x1008u
-#define TABLE_0 0x2000u
-#define TABLE_1 0x3000u
-
-/* Where the entries of the extent's pages start in a page table of segment 0. */
-#define PART_0(table) ((table) + 240 * 4)
-
-/* Even pages are valid; odd ones are not, and their entries name the frame of the segment table. */
-#define BARE 1u
-#define BACKED 2u
-
-static uint32_t entry_at(uint32_t page)
-{
-    return page < 16 ? PART_0(TABLE_0) + page * 4 : TABLE_1 + (page - 16) * 4;
-}
-
-static uint32_t frame_of(uint32_t page)
-{
-    return 4 + page / 2 % 8;
-}
-
-static struct machine guest(void)
-{
-    struct machine m = machine_of(FRAMES);
-    uint32_t page;
-
-    set_extent(&m, 15, 2);
-    set_word(&m, SEGMENT_0_AT, TABLE_0 | 15);
-    set_word(&m, SEGMENT_1_AT, TABLE_1);
-    for (page = 0; page < PAGES; page++)
-        set_word(&m, entry_at(page), page % 2 ? 0x1000 | PAGE_INVALID : frame_of(page) << 12);
-    return m;
-}
+/* ---- changes of the guest with origin 15 and extent 2 ---- */
 
 /* Every change is refused: of a page that is not valid, with a free frame, and of one that is. */
 static void refuses(struct machine *m, uint32_t bare, uint32_t backed, uint32_t number)
@@ -153,22 +95,6 @@ static uint32_t number_of(enum change change, int defect)
     if (defect == WRONG_STATE)
         return change == ADD ? 11 : 12;
     return defect == NO_SUCH_FRAME && change != ADD ? 0 : numbers[defect];
-}
-
-static void apply_head(struct machine *m, unsigned defects)
-{
-    if (defects & 1)
-        set_half_field(m, AT_LENGTH, 199);
-    if (defects & 2)
-        m->record.at[AT_VERSION] = 2;
-    if (defects & 4)
-        resize(&m->storage, m->storage.len + 1);
-    if (defects & 8)
-        resize(&m->keys, m->keys.len - 1);
-    if (defects & 16)
-        m->record.at[AT_RESERVED + 4] = 1;
-    if (defects & 32)
-        set_half_field(m, AT_EXTENT, 0);
 }
 
 /* Page 1 is valid or not. Its entry is also segment 1's, an invalid one; or page 17's; and page 5 may be in the frame of the
@@ -261,6 +187,7 @@ static void refused_head(struct machine *m, uint32_t number)
 {
     refuses(m, BARE, BACKED, number);
     LIST_REFUSED(m, PAGES, number);
+    FIRST_REFUSED(m, 0, PAGES, number);
 }
 
 static void test_refused_heads(void)
@@ -332,6 +259,8 @@ static void fails_entry(struct machine *m)
     CHANGE_INVALID(m, PROTECT, BACKED, 0);
     LIST_INVALID(m, PAGES);
     LIST_INVALID(m, 0);
+    FIRST_INVALID(m, 0, PAGES);
+    FIRST_INVALID(m, 1, 0);
 }
 
 /* Both records and both modes; a System/370 guest in the longer record alone. */
@@ -401,21 +330,6 @@ static void test_outside_extent(void)
     discard(&m);
 }
 
-/* A page is in reach, though not valid, where its own entry was read. */
-static int in_reach(const struct way *w)
-{
-    return w->named.stage != DREVOKAS_STAGE_HOST_SEGMENT
-           && (w->named.stage == DREVOKAS_STAGE_NONE || w->named.entry != UNREAD);
-}
-
-static int has_valid(const struct way *w)
-{
-    return in_reach(w) && w->code != DREVOKAS_PAGE_TRANSLATION && w->code != DREVOKAS_TRANSLATION_SPECIFICATION;
-}
-
-#define SPOT_PAGE (SPOT / 4096)
-#define SPOT_PAGES 256u
-
 static void try_way_changes(const struct way *w)
 {
     struct machine m = spot_guest(w);
@@ -437,18 +351,6 @@ static void try_way_changes(const struct way *w)
         DONE(&m, ADD, SPOT_PAGE, 3, SPOT_ENTRY_AT);
     }
     discard(&m);
-}
-
-/* Segment 1023 has a page table for three blocks, of which the extent has the last; segment 1024 one for two. */
-static uint32_t way_word(const struct way *w, uint32_t page, uint32_t spot_entry)
-{
-    if (page < 224)
-        return page == 0 ? 3 : page < 16 ? 0 : NO_PAGE;
-    if (page < SPOT_PAGE)
-        return w->before ? NO_PAGE : page == SPOT_PAGE - 1 ? 6 : 0;
-    if (page == SPOT_PAGE)
-        return has_valid(w) ? spot_entry >> 12 : NO_PAGE;
-    return in_reach(w) ? 0 : NO_PAGE;
 }
 
 static void try_way_list(const struct way *w)
@@ -989,15 +891,10 @@ static void test_workspaces(void)
 /* Extents from every block of a segment on, over up to four segments; the third has half of its pages, the fourth none. */
 static void test_list_extents(void)
 {
-    struct machine m = machine_of(16);
+    struct machine m = four_segments(16, 5, 0);
     static uint32_t words[40 * 16];
     uint32_t origin, extent, page, host, valid;
 
-    set_word(&m, SEGMENT_0_AT + 3 * 4, SEGMENT_INVALID);
-    for (page = 0; page < 3; page++)
-        set_word(&m, SEGMENT_0_AT + page * 4, (0x2000 + page * 0x400) | (page == 2 ? 7 : 15));
-    for (page = 0; page < 768; page++)
-        set_word(&m, 0x2000 + page * 4, page % 5 ? page << 12 : PAGE_INVALID);
     for (origin = 0; origin < 20; origin++) {
         for (extent = 1; extent < 40; extent += 1 + origin % 4) {
             set_extent(&m, origin, extent);
@@ -1013,24 +910,6 @@ static void test_list_extents(void)
 }
 
 /* ---- the largest extent ---- */
-
-#define LARGE_TABLES 514u
-#define LARGE_FRAMES 4096u
-
-/* Segment table in frames 0 and 1, page tables in the next 512; the others are the guest's. */
-static struct machine large_guest(void)
-{
-    struct machine m = machine_of(LARGE_FRAMES);
-    uint32_t i;
-
-    set_extent(&m, 0, 32768);
-    m.designation = 127;
-    for (i = 0; i < 2048; i++)
-        set_word(&m, i * 4, (0x2000 + i * 0x400) | 15);
-    for (i = 0; i < DREVOKAS_MOST_PAGES; i++)
-        set_word(&m, 0x2000 + i * 4, (LARGE_TABLES + i % (LARGE_FRAMES - LARGE_TABLES)) << 12);
-    return m;
-}
 
 static void test_largest(void)
 {

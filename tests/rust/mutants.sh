@@ -1,8 +1,9 @@
 #!/bin/sh
 # Mutates the model in many small ways and checks that `compare`, with its default cases and seed, finds each; those of requests
 # 1/12 and 2/12 must be found by tests/system_370.rs and tests/which_table.rs too. Those of the desk's model must be found by
-# `desk_calls` and by tests/desk.rs. Not in the gate. Takes some minutes. With arguments: only the mutants whose names contain
-# one of these words; the names of the desk's begin with "desk:".
+# `desk_calls` and by tests/desk.rs, those of the first unbacked page by `first_unbacked` and by tests/first_unbacked.rs. Not in
+# the gate. Takes some minutes. With arguments: only the mutants whose names contain one of these words; the names of the desk's
+# begin with "desk:", those of the first unbacked page's with "unbacked:".
 set -u
 . "$(dirname "$0")/../../tools/plain.sh"
 package=$(cd "$(dirname "$0")" && pwd)
@@ -402,32 +403,42 @@ mutant "translate's host fault without its stage" '/^pub fn translate_and_walk/,
 mutant "translate's exception without its stage" 's/Answer::ProgramException\(code, table\), None/Answer::ProgramException(code, Table { stage: Stage::None, ..table }), None/' both
 mutant "translate's exception without its entry" 's/Answer::ProgramException\(code, table\), None/Answer::ProgramException(code, Table::unread(table.stage)), None/' both
 
-# Request 3/12: in reach and valid.
+# Requests 3/12 and 4/12: in reach and valid, and the refusals that all calls have. The argument begins the names.
+mutants_in_common() {
+    mutant "$1: segment table's length ignored" 's/segment >> 4 > self\.designation & 0x7F/false/' both
+    mutant "$1: segment table's length off by one" 's/segment >> 4 > self\.designation/segment >> 4 >= self.designation/' both
+    mutant "$1: designation bit 24 in the length" 's/self\.designation & 0x7F\b/self.designation \& 0xFF/' compare
+    mutant "$1: designation bit 0 in the table's address" 's/self\.designation & 0x7FFF_F000/self.designation \& 0xFFFF_F000/' both
+    mutant "$1: last segment entry of the storage out of reach" '/fn segment_entry\(/,/^    }/ s/\(at < self\.storage\.len\(\)\)/(at + 4 < self.storage.len())/' both
+    mutant "$1: last page entry of the storage out of reach" '/fn host_page_entry\(/,/^    }/ s/\(at < self\.storage\.len\(\)\)/(at + 4 < self.storage.len())/' both
+    mutant "$1: invalid segment entry taken" 's/bit\(segment_entry, 26\) \|\| bit\(segment_entry, 0\)/bit(segment_entry, 0)/' both
+    mutant "$1: malformed segment entry taken" 's/bit\(segment_entry, 26\) \|\| bit\(segment_entry, 0\)/bit(segment_entry, 26)/' both
+    mutant "$1: segment bit 27 tested" 's/bit\(segment_entry, 26\) \|\| bit\(segment_entry, 0\)/bit(segment_entry, 26) || bit(segment_entry, 27) || bit(segment_entry, 0)/' both
+    mutant "$1: page table's length ignored" 's/index >> 4 > segment_entry & 0xF/false/' both
+    mutant "$1: page table's length off by one" 's/index >> 4 > segment_entry/index >> 4 >= segment_entry/' both
+    mutant "$1: page tables at multiples of 1,024" 's/segment_entry & 0x7FFF_FFC0/segment_entry \& 0x7FFF_FC00/' both
+    mutant "$1: page bit 0 not tested" 's/let well_formed = !bit\(entry, 0\) && /let well_formed = /' both
+    mutant "$1: page bit 20 not tested" 's/!bit\(entry, 20\) && //' both
+    mutant "$1: page bit 23 not tested" 's/ && !bit\(entry, 23\)//' both
+    mutant "$1: page bit 24 tested" 's/!bit\(entry, 23\)/!bit(entry, 23) \&\& !bit(entry, 24)/' both
+    mutant "$1: page bit 21 not tested" 's/\(well_formed && !bit\(entry, 21\)\)/(well_formed)/' both
+    mutant "$1: protected page not valid" 's/\(well_formed && !bit\(entry, 21\)\)/(well_formed \&\& !bit(entry, 21) \&\& !bit(entry, 22))/' both
+    mutant "$1: frame past the storage not valid" 's/\(well_formed && !bit\(entry, 21\)\)/(well_formed \&\& !bit(entry, 21) \&\& ((entry \& 0x7FFF_F000) as usize) < self.storage.len())/' both
+    mutant "$1: origin left out" 's/model::origin_bytes\(self\.record\) \/ FRAME as u32 \+ page/page/' both
+    mutant "$1: pages prefixed" '/fn page_entry\(/,/^    }/ s/self\.host_page\(page\)/self.host_page(if page == 0 { model::prefix(self.record) >> 12 } else if page == model::prefix(self.record) >> 12 { 0 } else { page })/' both
+    mutant "$1: reserved bytes before the storage" '/^fn turned_away/,/^}/ { s/\.or_else\(\|\| model::refuse_storage\(storage\.len\(\), keys\.len\(\)\)\)/.or_else(|| model::refuse_reserved(record)).or_else(|| model::refuse_storage(storage.len(), keys.len()))/ }' both
+    mutant "$1: reserved bytes not tested" '/^fn turned_away/,/^}/ s/\.or_else\(\|\| model::refuse_reserved\(record\)\)//' both
+    mutant "$1: keys not tested" '/^fn turned_away/,/^}/ s/refuse_storage\(storage\.len\(\), keys\.len\(\)\)/refuse_storage(storage.len(), if keys.len() == usize::MAX { 0 } else { storage.len() \/ FRAME })/' both
+    mutant "$1: entry failure before the reserved bytes" '/^fn turned_away/,/^}/ s/^    if let Some\(number\) = refusal \{/    if matches!(refusal, Some(7)) \&\& !model::entry_is_good(record) { return Some(Answer::EntryFailed); }\n&/' both
+    mutant "$1: entry failure as refusal 10" 's/then_some\(Answer::EntryFailed\)/then_some(Answer::Refused(10))/' both
+}
+
+# Request 3/12.
 module=desk
 comparison=desk_calls
 suite=desk
-mutant "desk: segment table's length ignored" 's/segment >> 4 > self\.designation & 0x7F/false/' both
-mutant "desk: segment table's length off by one" 's/segment >> 4 > self\.designation/segment >> 4 >= self.designation/' both
-mutant "desk: designation bit 24 in the length" 's/self\.designation & 0x7F\b/self.designation \& 0xFF/' compare
-mutant "desk: designation bit 0 in the table's address" 's/self\.designation & 0x7FFF_F000/self.designation \& 0xFFFF_F000/' both
-mutant "desk: last segment entry of the storage out of reach" '/fn segment_entry\(/,/^    }/ s/\(at < self\.storage\.len\(\)\)/(at + 4 < self.storage.len())/' both
-mutant "desk: last page entry of the storage out of reach" '/fn host_page_entry\(/,/^    }/ s/\(at < self\.storage\.len\(\)\)/(at + 4 < self.storage.len())/' both
-mutant "desk: invalid segment entry taken" 's/bit\(segment_entry, 26\) \|\| bit\(segment_entry, 0\)/bit(segment_entry, 0)/' both
-mutant "desk: malformed segment entry taken" 's/bit\(segment_entry, 26\) \|\| bit\(segment_entry, 0\)/bit(segment_entry, 26)/' both
-mutant "desk: segment bit 27 tested" 's/bit\(segment_entry, 26\) \|\| bit\(segment_entry, 0\)/bit(segment_entry, 26) || bit(segment_entry, 27) || bit(segment_entry, 0)/' both
-mutant "desk: page table's length ignored" 's/index >> 4 > segment_entry & 0xF/false/' both
-mutant "desk: page table's length off by one" 's/index >> 4 > segment_entry/index >> 4 >= segment_entry/' both
-mutant "desk: page tables at multiples of 1,024" 's/segment_entry & 0x7FFF_FFC0/segment_entry \& 0x7FFF_FC00/' both
-mutant "desk: page bit 0 not tested" 's/let well_formed = !bit\(entry, 0\) && /let well_formed = /' both
-mutant "desk: page bit 20 not tested" 's/!bit\(entry, 20\) && //' both
-mutant "desk: page bit 23 not tested" 's/ && !bit\(entry, 23\)//' both
-mutant "desk: page bit 24 tested" 's/!bit\(entry, 23\)/!bit(entry, 23) \&\& !bit(entry, 24)/' both
-mutant "desk: page bit 21 not tested" 's/\(well_formed && !bit\(entry, 21\)\)/(well_formed)/' both
-mutant "desk: protected page not valid" 's/\(well_formed && !bit\(entry, 21\)\)/(well_formed \&\& !bit(entry, 21) \&\& !bit(entry, 22))/' both
-mutant "desk: frame past the storage not valid" 's/\(well_formed && !bit\(entry, 21\)\)/(well_formed \&\& !bit(entry, 21) \&\& ((entry \& 0x7FFF_F000) as usize) < self.storage.len())/' both
+mutants_in_common desk
 mutant "desk: frame number of twelve bits" 's/then_some\(\(entry & 0x7FFF_F000\) >> 12\)/then_some(entry >> 12 \& 0xFFF)/' both
-mutant "desk: origin left out" 's/model::origin_bytes\(self\.record\) \/ FRAME as u32 \+ page/page/' both
-mutant "desk: pages prefixed" '/fn page_entry\(/,/^    }/ s/self\.host_page\(page\)/self.host_page(if page == 0 { model::prefix(self.record) >> 12 } else if page == model::prefix(self.record) >> 12 { 0 } else { page })/' both
 
 # Request 3/12: describing entries and guest frames.
 mutant "desk: a segment past the extent touched" 's/self\.host_page\(self\.pages\(\) - 1\) >> 8/self.host_page(self.pages()) >> 8/' compare
@@ -462,11 +473,6 @@ mutant "desk: 14 not asked of remove" 's/if conflict\.any\(\) \{/if conflict.any
 mutant "desk: 14 asked of the list" '/^pub fn list_pages/,/^}/ s/^    for page in/    if entry_in_guest_frame(tables) { return Answer::Refused(14); }\n&/' both
 
 # Request 3/12: the order of the refusals.
-mutant "desk: reserved bytes before the storage" '/^fn turned_away/,/^}/ { s/\.or_else\(\|\| model::refuse_storage\(storage\.len\(\), keys\.len\(\)\)\)/.or_else(|| model::refuse_reserved(record)).or_else(|| model::refuse_storage(storage.len(), keys.len()))/ }' both
-mutant "desk: reserved bytes not tested" '/^fn turned_away/,/^}/ s/\.or_else\(\|\| model::refuse_reserved\(record\)\)//' both
-mutant "desk: keys not tested" '/^fn turned_away/,/^}/ s/refuse_storage\(storage\.len\(\), keys\.len\(\)\)/refuse_storage(storage.len(), if keys.len() == usize::MAX { 0 } else { storage.len() \/ FRAME })/' both
-mutant "desk: entry failure before the reserved bytes" '/^fn turned_away/,/^}/ s/^    if let Some\(number\) = refusal \{/    if matches!(refusal, Some(7)) \&\& !model::entry_is_good(record) { return Some(Answer::EntryFailed); }\n&/' both
-mutant "desk: entry failure as refusal 10" 's/then_some\(Answer::EntryFailed\)/then_some(Answer::Refused(10))/' both
 mutant "desk: the page at the extent taken" 's/if page >= tables\.pages\(\)/if page > tables.pages()/' compare
 mutant "desk: 12 before 10" '/^fn set_bits/,/^}/ s/Err\(answer\) => return answer\.into\(\)/Err(_) => return Answer::Refused(12).into()/' both
 mutant "desk: 13 before 11" '/^pub fn add_page/,/^}/ s/if before\.is_valid\(page\) \{/if before.is_valid(page) \&\& (frame as usize) < storage.len() \/ FRAME {/' both
@@ -505,6 +511,64 @@ mutant "desk: the frame's address listed" 's/tables\.frame_of\(page\)\.unwrap_or
 mutant "desk: frames past the storage not listed" 's/tables\.frame_of\(page\)\.unwrap_or/tables.frame_of(page).filter(|\&frame| (frame as usize) < storage.len() \/ FRAME).unwrap_or/' both
 mutant "desk: the list answers no number" 's/Answer::Done\(tables\.valid_pages\(\)\)/Answer::Done(0)/' both
 mutant "desk: the list answers all pages" 's/Answer::Done\(tables\.valid_pages\(\)\)/Answer::Done(tables.pages())/' both
+
+# Request 4/12: which pages are asked about, and which of them is answered.
+comparison=first_unbacked
+suite=first_unbacked
+mutants_in_common unbacked
+mutant "unbacked: B included" '/^pub fn survey/,/^}/ s/\(from\.\.to\)/(from..=to)/' both
+mutant "unbacked: A excluded" '/^pub fn survey/,/^}/ s/\(from\.\.to\)/(from + 1..to)/' both
+mutant "unbacked: A ignored" '/^pub fn survey/,/^}/ s/\(from\.\.to\)/(0..to)/' both
+mutant "unbacked: B ignored" '/^pub fn survey/,/^}/ s/\(from\.\.to\)/(from..tables.pages())/' both
+mutant "unbacked: the page before B ignored" '/^pub fn survey/,/^}/ s/\(from\.\.to\)/(from..to.saturating_sub(1))/' both
+mutant "unbacked: one segment asked about" '/^pub fn survey/,/^}/ s/\(from\.\.to\)/(from..to.min((tables.host_page(from) | 0xFF) + 1 - tables.host_page(0)))/' both
+mutant "unbacked: A back to its segment" '/^pub fn survey/,/^}/ s/\(from\.\.to\)/((tables.host_page(from) \& !0xFF).max(tables.host_page(0)) - tables.host_page(0)..if from < to { to } else { 0 })/' both
+mutant "unbacked: A on to a segment" '/^pub fn survey/,/^}/ s/\(from\.\.to\)/(if tables.page_entry(from).is_some() { from } else { (tables.host_page(from) | 0xFF) + 1 - tables.host_page(0) }..to)/' both
+mutant "unbacked: the highest answered" '/^pub fn first_unbacked/,/^}/ s/\.first\(\)/.last()/' both
+mutant "unbacked: the page after answered" '/^pub fn first_unbacked/,/^}/ s/Unbacked::Page\(page\)/Unbacked::Page(page + 1)/' both
+mutant "unbacked: counted from A" '/^pub fn first_unbacked/,/^}/ s/Unbacked::Page\(page\)/Unbacked::Page(page - from)/' both
+mutant "unbacked: host page answered" '/^pub fn first_unbacked/,/^}/ s/Unbacked::Page\(page\)/Unbacked::Page(tables.host_page(page))/' both
+mutant "unbacked: address answered" '/^pub fn first_unbacked/,/^}/ s/Unbacked::Page\(page\)/Unbacked::Page(page << 12)/' both
+mutant "unbacked: first page of the segment answered" '/^pub fn first_unbacked/,/^}/ s/Unbacked::Page\(page\)/Unbacked::Page(if tables.page_entry(page).is_some() { page } else { (tables.host_page(page) \& !0xFF).max(tables.host_page(0)) - tables.host_page(0) })/' both
+mutant "unbacked: B answered for none" '/^pub fn first_unbacked/,/^}/ s/None => Unbacked::None/None => Unbacked::Page(to)/' both
+mutant "unbacked: page 0 answered as none" '/^pub fn first_unbacked/,/^}/ s/Some\(&page\) => /Some(0) => Unbacked::None,\n        &/' both
+
+# Request 4/12: "no valid host entry".
+mutant "unbacked: pages out of reach passed over" '/^pub fn survey/,/^}/ s/!tables\.is_valid\(page\)/tables.page_entry(page).is_some() \&\& !tables.is_valid(page)/' both
+mutant "unbacked: invalid segments passed over" '/^pub fn survey/,/^}/ s/!tables\.is_valid\(page\)/!tables.is_valid(page) \&\& tables.segment_entry(tables.host_page(page) >> 8).is_none_or(|at| !bit(word(tables.storage, at), 26))/' both
+mutant "unbacked: malformed segments passed over" '/^pub fn survey/,/^}/ s/!tables\.is_valid\(page\)/!tables.is_valid(page) \&\& tables.segment_entry(tables.host_page(page) >> 8).is_none_or(|at| !bit(word(tables.storage, at), 0))/' both
+mutant "unbacked: segments out of reach passed over" '/^pub fn survey/,/^}/ s/!tables\.is_valid\(page\)/!tables.is_valid(page) \&\& tables.segment_entry(tables.host_page(page) >> 8).is_some()/' both
+mutant "unbacked: page after an invalid segment answered" '/^pub fn survey/,/^}/ s/!tables\.is_valid\(page\)/!tables.is_valid(page) \&\& (tables.page_entry(page).is_some() || page > 0 \&\& tables.page_entry(page - 1).is_none())/' both
+mutant "unbacked: pages past the length passed over" '/^pub fn survey/,/^}/ s/!tables\.is_valid\(page\)/!tables.is_valid(page) \&\& tables.segment_entry(tables.host_page(page) >> 8).is_none_or(|at| word(tables.storage, at) \& 0x8000_0020 != 0 || tables.host_page(page) >> 4 \& 15 <= word(tables.storage, at) \& 15)/' both
+mutant "unbacked: a page out of reach ends the survey" '/^pub fn survey/,/^}/ s/\(from\.\.to\)/(from..to).take_while(|\&page| tables.page_entry(page).is_some())/' both
+mutant "unbacked: malformed taken as valid" '/^pub fn survey/,/^}/ s/!tables\.is_valid\(page\)/tables.page_entry(page).is_none_or(|at| bit(word(tables.storage, at), 21))/' both
+mutant "unbacked: malformed and invalid taken as valid" '/^pub fn survey/,/^}/ s/!tables\.is_valid\(page\)/!tables.is_valid(page) \&\& tables.page_entry(page).is_none_or(|at| word(tables.storage, at) \& 0x8000_0D00 <= 0x800)/' both
+mutant "unbacked: frame past the storage not backed" '/^pub fn survey/,/^}/ s/!tables\.is_valid\(page\)/tables.frame_of(page).is_none_or(|frame| frame as usize >= tables.storage.len() \/ FRAME)/' both
+mutant "unbacked: protected page not backed" '/^pub fn survey/,/^}/ s/!tables\.is_valid\(page\)/(!tables.is_valid(page) || bit(word(tables.storage, tables.page_entry(page).unwrap()), 22))/' both
+mutant "unbacked: frame 0 not backed" '/^pub fn survey/,/^}/ s/!tables\.is_valid\(page\)/tables.frame_of(page).is_none_or(|frame| frame == 0)/' both
+mutant "unbacked: entry of two pages not backed" '/^pub fn survey/,/^}/ s/!tables\.is_valid\(page\)/(!tables.is_valid(page) || (from..page).any(|other| tables.page_entry(other) == tables.page_entry(page)))/' both
+
+# Request 4/12: the refusals and their order.
+mutant "unbacked: 16 before the entry failure" '/^pub fn first_unbacked/,/^}/ s/^    match turned_away\(record, storage, keys\) \{/    if turned_away(record, storage, keys) == Some(Answer::EntryFailed) \&\& (from > to || to > 16 * model::halfword(record, 14)) { return Unbacked::Refused(16); }\n&/' both
+mutant "unbacked: 16 before 7" '/^pub fn first_unbacked/,/^}/ s/^    match turned_away\(record, storage, keys\) \{/    if turned_away(record, storage, keys) == Some(Answer::Refused(7)) \&\& (from > to || to > 16 * model::halfword(record, 14)) { return Unbacked::Refused(16); }\n&/' both
+mutant "unbacked: 16 before 4" '/^pub fn first_unbacked/,/^}/ s/^    match turned_away\(record, storage, keys\) \{/    if turned_away(record, storage, keys) == Some(Answer::Refused(4)) \&\& (from > to || to > 16 * model::halfword(record, 14)) { return Unbacked::Refused(16); }\n&/' both
+mutant "unbacked: A above B before the entry failure" '/^pub fn first_unbacked/,/^}/ s/^    match turned_away\(record, storage, keys\) \{/    if turned_away(record, storage, keys) == Some(Answer::EntryFailed) \&\& from > to { return Unbacked::Refused(16); }\n&/' both
+mutant "unbacked: A equal to B before the entry failure" '/^pub fn first_unbacked/,/^}/ s/^    match turned_away\(record, storage, keys\) \{/    if turned_away(record, storage, keys) == Some(Answer::EntryFailed) \&\& from == to { return Unbacked::None; }\n&/' both
+mutant "unbacked: entry failure as none" '/^pub fn first_unbacked/,/^}/ s/Some\(_\) => return Unbacked::EntryFailed/Some(_) => return Unbacked::None/' both
+mutant "unbacked: entry failure as refusal 16" '/^pub fn first_unbacked/,/^}/ s/Some\(_\) => return Unbacked::EntryFailed/Some(_) => return Unbacked::Refused(16)/' both
+mutant "unbacked: A above B as none" '/^pub fn first_unbacked/,/^}/ s/from > to \|\| //' both
+mutant "unbacked: A above B by one as none" '/^pub fn first_unbacked/,/^}/ s/from > to \|\| /from > to.saturating_add(1) || /' both
+mutant "unbacked: A equal to B refused" '/^pub fn first_unbacked/,/^}/ s/from > to \|\| /from >= to || /' both
+mutant "unbacked: A equal to B refused at the end" '/^pub fn first_unbacked/,/^}/ s/from > to \|\| /from > to || from >= tables.pages() || /' both
+mutant "unbacked: A equal to B past the extent as none" '/^pub fn first_unbacked/,/^}/ s/\|\| to > tables\.pages\(\)/|| from < to \&\& to > tables.pages()/' both
+mutant "unbacked: A and B compared as signed" '/^pub fn first_unbacked/,/^}/ s/from > to \|\| /from as i32 > to as i32 || /' both
+mutant "unbacked: A and B cut to 20 bits" '/^pub fn first_unbacked/,/^}/ s/^    let tables = /    let (from, to) = (from \& 0xF_FFFF, to \& 0xF_FFFF);\n&/' both
+mutant "unbacked: B at the end refused" '/^pub fn first_unbacked/,/^}/ s/to > tables\.pages\(\)/to >= tables.pages()/' both
+mutant "unbacked: B one past the extent taken" '/^pub fn first_unbacked/,/^}/ s/to > tables\.pages\(\)/to > tables.pages() + 1/' both
+mutant "unbacked: B cut to the extent" '/^pub fn first_unbacked/,/^}/ s/ \|\| to > tables\.pages\(\)//; /^pub fn first_unbacked/,/^}/ s/survey\(tables, from, to\)/survey(tables, from, to.min(tables.pages()))/' both
+mutant "unbacked: B past the extent refused where none is found" '/^pub fn first_unbacked/,/^}/ s/\|\| to > tables\.pages\(\)/|| to > tables.pages() \&\& survey(tables, from, tables.pages()).is_empty()/' both
+mutant "unbacked: 16 where no page is in reach" '/^pub fn first_unbacked/,/^}/ s/from > to \|\| /from > to || from < to \&\& tables.segment_entry(tables.host_page(from) >> 8).is_none() || /' both
+mutant "unbacked: 14 asked" '/^pub fn first_unbacked/,/^}/ s/^    match survey/    if entry_in_guest_frame(tables) {\n        return Unbacked::Refused(14);\n    }\n&/' both
 
 echo "mutants: $total, caught $caught, missed $missed"
 [ $missed -eq 0 ] && [ $total -gt 0 ]

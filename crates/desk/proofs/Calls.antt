@@ -21,12 +21,12 @@ use Rattle.machine.proofs.FrameBytes.{same-bytes}
 use Rattle.machine.proofs.Isolation.{isolation}
 use Rattle.desk.specs.Extent.{firstPage, pageCount, guestFrame}
 use Rattle.desk.specs.Theorems.{OfExtent}
-use Rattle.desk.specs.Calls.{Call, changes, lists, runs, changed, listed, ran, Store, replyTo, after, replies, afterAll, Serves, AllServe, HostsAgree, LeavesTheRest, SameThroughout, IsolationOfCalls}
+use Rattle.desk.specs.Calls.{Call, changes, lists, asks, runs, changed, listed, found, ran, Store, replyTo, after, replies, afterAll, Serves, AllServe, HostsAgree, LeavesTheRest, SameThroughout, IsolationOfCalls}
 use Rattle.desk.proofs.Tables.{true-or-false, never-both, SameEntriesOf, same-tables}
 use Rattle.desk.proofs.Changes.{hostOf}
 use Rattle.desk.proofs.Terms.{tests-are-the-terms}
 use Rattle.desk.proofs.Describing.{in-extent, segment-describes, page-describes, inside-for}
-use Rattle.desk.proofs.Replies.{same-desk, same-list}
+use Rattle.desk.proofs.Replies.{same-desk, same-list, same-question}
 use Rattle.desk.proofs.Kept.{Sound, Kept, sound-of-tables, of-record, entry-of-run, frame-of-run, extent-of, keeps}
 
 -- a frame is a guest frame as a run starts, or it is none
@@ -103,6 +103,9 @@ module _ (g : Guest) (d : ℕ) (Frames : ℕ → Type 0) (good : entryGood g ≡
     alike (lists r ws) of =
         let same = same-list r d (h₁ .storage) (h₁ .keys) (h₂ .storage) (h₂ .keys) (agree .lengths) (entries-for r of) ws in
         record { reply = ap (λ shown. listed (shown .answer) (shown .words)) same; bytes = λ i e. e; marks = λ f e. e }
+    alike (asks r from to) of =
+        let same = same-question r d (h₁ .storage) (h₁ .keys) (h₂ .storage) (h₂ .keys) (agree .lengths) from to (λ _. entries-for r of) in
+        record { reply = ap found same; bytes = λ i e. e; marks = λ f e. e }
     alike (runs n r) (of, on) = rw (← on) (runs-alike g Frames good n r of h₁ h₂ (rw on agree))
 
   agree-after : (call : Call) (h₁ h₂ : Store) → HostsAgree g d Frames h₁ h₂ → Alike d call h₁ h₂ → Kept g d Frames h₁ (after d call h₁)

@@ -24,11 +24,11 @@ use Rattle.desk.proofs.Tables.{both, was-false, segment-in-reach, page-
 use Rattle.desk.proofs.Extents.{some-below}
 use Rattle.desk.proofs.Terms.{entry-in-frame-of-test}
 
-not-true-is-false : (b : Bool) → (b ≡ true → ⊥) → b ≡ false
+pub not-true-is-false : (b : Bool) → (b ≡ true → ⊥) → b ≡ false
 not-true-is-false true h = absurd (h refl)
 not-true-is-false false h = refl
 
-input-accepted : (r s k : List ℕ) → GoodInput r s k → deskVerdict r s k ≡ Accepted
+pub input-accepted : (r s k : List ℕ) → GoodInput r s k → deskVerdict r s k ≡ Accepted
 unfolding deskVerdict translateVerdict wrongAccess
 input-accepted r s k good = good-input-is-accepted .byTranslate r s k 0 good (lit≤ tt)
 

@@ -24,7 +24,7 @@ use Rattle.desk.specs.declared.Called.the-variants.{Done}
 use Rattle.desk.specs.Extent.{pageCount}
 use Rattle.desk.specs.Desk.{deskOf}
 use Rattle.desk.specs.Theorems.{OfExtent}
-use Rattle.desk.specs.Calls.{Call, changes, lists, runs, Store, after, Serves}
+use Rattle.desk.specs.Calls.{Call, changes, lists, asks, runs, Store, after, Serves}
 use Rattle.desk.proofs.Tables.{true-or-false, never-both, page-valid, SameTables}
 use Rattle.desk.proofs.Changes.{hostOf, Happened, done-or-not, done-of, not-done, calls-change-one-entry}
 use Rattle.desk.proofs.Pages.{others-same, same-reach, same-place, calls-do-what-they-say}
@@ -183,4 +183,5 @@ keeps g d Frames good (changes c r p number) serves h sound = record {
   marks = λ f out. refl;
 }
 keeps g d Frames good (lists r ws) serves h sound = record { storage = unchanged g d Frames (h .storage) sound; long = refl; marks = λ f out. refl }
+keeps g d Frames good (asks r from to) serves h sound = record { storage = unchanged g d Frames (h .storage) sound; long = refl; marks = λ f out. refl }
 keeps g d Frames good (runs n r) (of, on) h sound = rw (← on) (run-keeps g Frames good n r of h (rw on sound))

@@ -12,6 +12,8 @@ pub mod Number
 pub mod Listings
 pub mod Describing
 pub mod Runs
+pub mod Surveys
 pub mod Replies
+pub mod Questions
 pub mod Kept
 pub mod Calls

@@ -1,7 +1,7 @@
 -- Two storages of one length that have the same entries of an extent: a call of the desk answers alike, and writes alike.
 use Prim.Native.Nat.{ℕ, _+_, _-_, _≤_, _<_}
 use native.Mathlib.Omega.{arith}
-use mathlib.Core.Path.{_≡_, refl, sym, _∙_}
+use mathlib.Core.Path.{_≡_, refl, sym, ap, _∙_}
 use mathlib.Core.Bool.{Bool, true, false, cond, _||_, or-true}
 use mathlib.Core.List.{List}
 use borrow.Author.Tests.{leb-false, not-false}
@@ -24,11 +24,13 @@ use Rattle.desk.specs.declared.Called.the-variants as called
 use Rattle.desk.specs.Reach.{pageReached}
 use Rattle.desk.specs.Extent.{firstPage, pageCount, servesSecondPage, servesAsSegment}
 use Rattle.desk.specs.Desk.{entryAfter, storageAfter, outOfReach, stateVerdict, entangled, changeVerdict, deskVerdict, Result, unchanged, changeAs, changeOf, deskAs, deskOf, listFor, listAs, listOf}
+use Rattle.desk.specs.Unbacked.{lowest, wrongRange, unbackedFor, unbackedAs, unbackedOf}
 use Rattle.desk.proofs.Tables.{true-or-false, SameEntriesOf, SameTables, same-tables, page-in-reach}
 use Rattle.desk.proofs.Extents.{same-valid-pages, same-listing, same-entry-in-frame, same-second-page, same-as-segment}
 use Rattle.desk.proofs.Changes.{neither, length-after}
 use Rattle.desk.proofs.Written.{segment-written, reach-written, place-written}
 use Rattle.desk.proofs.Describing.{beside-or-in}
+use Rattle.desk.proofs.Surveys.{same-pages, range-of-right}
 
 -- of two disjunctions the second tests are the same, and where those fail, the first are
 same-or : (a b x : Bool) {y : Bool} → x ≡ y → (x ≡ false → a ≡ b) → (a || x) ≡ (b || y)
@@ -45,6 +47,15 @@ written-alike s t at w i lengths fits e =
     let here : i ≡ at + (i - at) = omega arith in
     rw here
     (getD-sets-inside s at (wordBytes w) (i - at) 0 (omega arith) fits ∙ sym (getD-sets-inside t at (wordBytes w) (i - at) 0 (omega arith) (omega arith))))
+
+-- what stands behind a test, alike where it comes to it
+same-where-true : {A : Type 0} (b : Bool) (u v w : A) → (b ≡ true → u ≡ v) → cond b u w ≡ cond b v w
+same-where-true true u v w e = e refl
+same-where-true false u v w e = refl
+
+same-where-false : {A : Type 0} (b : Bool) (u v w : A) → (b ≡ false → u ≡ v) → cond b w u ≡ cond b w v
+same-where-false true u v w e = refl
+same-where-false false u v w e = e refl
 
 module _ (first pages d : ℕ) (s t : List ℕ) (lengths : length s ≡ length t) (same : (p : ℕ) → p < pages → SameEntriesOf d s t (first + p)) where
   tables : (p : ℕ) → p < pages → SameTables d s t (first + p)
@@ -117,11 +128,15 @@ on-one-test : {A : Type 0} (P : A → A → Type 0) (b : Bool) {u u′ v v′ : 
 on-one-test P true p q = p
 on-one-test P false p q = q
 
+-- the verdict on the input goes by the lengths
+pub same-lengths-verdict : (r s k t l : List ℕ) → (length s ≡ length t) × (length k ≡ length l) → deskVerdict r s k ≡ deskVerdict r t l
+unfolding deskVerdict wrongStorage wrongKeys
+same-lengths-verdict r s k t l lengths = simp (lengths .0, lengths .1)
+
 module _ (r : List ℕ) (d : ℕ) (s k t l : List ℕ) (lengths : (length s ≡ length t) × (length k ≡ length l))
     (same : (p : ℕ) → p < pageCount (guestOf r) → SameEntriesOf d s t (firstPage (guestOf r) + p)) where
   same-desk-verdict : deskVerdict r s k ≡ deskVerdict r t l
-  unfolding deskVerdict wrongStorage wrongKeys
-  same-desk-verdict = simp (lengths .0, lengths .1)
+  same-desk-verdict = same-lengths-verdict r s k t l lengths
 
   same-change : (c : Change) (p number : ℕ) → SameOutcome s t (changeOf c (guestOf r) d s p number) (changeOf c (guestOf r) d t p number)
   unfolding changeOf changeAs outOfReach changeVerdict
@@ -156,3 +171,22 @@ module _ (r : List ℕ) (d : ℕ) (s k t l : List ℕ) (lengths : (length s ≡ 
       by-verdict : (v : Verdict) → listAs r d s ws v ≡ listAs r d t ws v
       by-verdict (verdict.Refused refusal) = refl
       by-verdict verdict.Accepted = rw same-list-for
+
+-- the question for the first unbacked page, of a guest whose tables are alike where entry lets it through
+module _ (r : List ℕ) (d : ℕ) (s k t l : List ℕ) (lengths : (length s ≡ length t) × (length k ≡ length l)) (from to : ℕ) where
+  pub same-question : (entryGood (guestOf r) ≡ true → (p : ℕ) → p < pageCount (guestOf r) → SameEntriesOf d s t (firstPage (guestOf r) + p))
+      → unbackedOf r d s k from to ≡ unbackedOf r d t l from to
+  unfolding unbackedOf unbackedAs unbackedFor
+  same-question same = rw (← same-lengths-verdict r s k t l lengths) (by-verdict (deskVerdict r s k))
+    where
+      surveyed : entryGood (guestOf r) ≡ true → unbackedFor (guestOf r) d s from to ≡ unbackedFor (guestOf r) d t from to
+      surveyed good =
+          same-where-false (wrongRange (pageCount (guestOf r)) from to) _ _ _ λ right.
+          let (order, inside) = range-of-right (pageCount (guestOf r)) from to right in
+          ap lowest
+          (same-pages (firstPage (guestOf r)) d s t from to order
+          (λ q low high. same-tables d s t (firstPage (guestOf r) + q) (same good q (omega arith)) .valid))
+
+      by-verdict : (v : Verdict) → unbackedAs r d s from to v ≡ unbackedAs r d t from to v
+      by-verdict (verdict.Refused number) = refl
+      by-verdict verdict.Accepted = same-where-true (entryGood (guestOf r)) _ _ _ surveyed

@@ -1,4 +1,4 @@
--- DEMAND 3 over a sequence of calls, desk calls and runs in any order: the frames of each run are those of the tables as it starts, so
+-- DEMAND 3 over a sequence of calls, desk calls, questions and runs in any order: the frames of each run are those of the tables as it starts, so
 -- a call between two runs counts for the second. Two hosts that agree at the start and are given the same calls give the same answers
 -- throughout. The record of a later call may be what an earlier run left: the runs of both hosts leave the same.
 use Prim.Native.Nat.{ℕ, _+_, _*_, _/_, _≤_, _<_}
@@ -19,20 +19,24 @@ use Rattle.desk.specs.declared.Change.{Change}
 use Rattle.desk.specs.declared.Change.the-variants.{Add, Remove, Protect}
 use Rattle.desk.specs.declared.Called.{Called}
 use Rattle.desk.specs.declared.Listed.{Listed}
+use Rattle.desk.specs.declared.Found.{Found}
 use Rattle.desk.specs.Desk.{deskOf, listOf}
+use Rattle.desk.specs.Unbacked.{unbackedOf}
 use Rattle.desk.specs.Theorems.{OfExtent}
 
 -- a call, with all that is handed in beside the host's storage and keys: a change of a page (record, page, number of valid pages), a
--- listing (record, workspace), a run (numbers, record)
+-- listing (record, workspace), a question for the first unbacked page (record, A and B), a run (numbers, record)
 pub data Call : Type 0 where
   changes : Change → List ℕ → ℕ → ℕ → Call
   lists : List ℕ → List ℕ → Call
+  asks : List ℕ → ℕ → ℕ → Call
   runs : Numbers → List ℕ → Call
 
 -- all that comes back beside them
 pub data Reply : Type 0 where
   changed : Called → ℕ → Reply
   listed : Listed → List ℕ → Reply
+  found : Found → Reply
   ran : Answer → Sought → List ℕ → Reply
 
 -- the host between two calls
@@ -44,12 +48,14 @@ unfoldable pub replyTo : ℕ → Call → Store → Reply
 replyTo d (changes c r p number) h =
     changed (deskOf c r d (h .storage) (h .keys) p number .answer) (deskOf c r d (h .storage) (h .keys) p number .number)
 replyTo d (lists r ws) h = listed (listOf r d (h .storage) (h .keys) ws .answer) (listOf r d (h .storage) (h .keys) ws .words)
+replyTo d (asks r from to) h = found (unbackedOf r d (h .storage) (h .keys) from to)
 replyTo d (runs n r) h =
     ran (runOf n r (h .storage) (h .keys) .answer) (runOf n r (h .storage) (h .keys) .table) (runOf n r (h .storage) (h .keys) .description)
 
 unfoldable pub after : ℕ → Call → Store → Store
 after d (changes c r p number) h = record { storage = deskOf c r d (h .storage) (h .keys) p number .storage; keys = h .keys }
 after d (lists r ws) h = h
+after d (asks r from to) h = h
 after d (runs n r) h = record { storage = runOf n r (h .storage) (h .keys) .storage; keys = runOf n r (h .storage) (h .keys) .keys }
 
 -- the replies to calls, one after the other, and the host after all of them
@@ -68,6 +74,7 @@ module _ (g : Guest) (d : ℕ) (Frames : ℕ → Type 0) where
   Serves (changes Remove r p number) = OfExtent (g .origin) (g .extent) r
   Serves (changes Protect r p number) = OfExtent (g .origin) (g .extent) r
   Serves (lists r ws) = OfExtent (g .origin) (g .extent) r
+  Serves (asks r from to) = OfExtent (g .origin) (g .extent) r
   Serves (runs n r) = OfExtent (g .origin) (g .extent) r × (n .designation ≡ d)
 
   unfoldable pub AllServe : List Call → Type 0

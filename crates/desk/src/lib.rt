@@ -21,3 +21,11 @@ pub enum Listed {
     Validity,
     Pages(u32),
 }
+
+// The answer to the question for the first unbacked page: a refusal, code 32, none, or the page.
+pub enum Found {
+    Refused(u32),
+    Validity,
+    None,
+    Page(u32),
+}

@@ -1,6 +1,7 @@
-// The public operations, for C: check a record, translate one guest address, run; add, remove and protect a guest page, list the pages.
-// No operation has a requires; each contract equates the answer, and all that the operation may write, with the definition of machine's
-// Operations or of desk's Desk, for every input, refused input too, packed as packing's specs/Packing says.
+// The public operations, for C: check a record, translate one guest address, run; add, remove and protect a guest page, list the pages,
+// find the first unbacked one. No operation has a requires; each contract equates the answer, and all that the operation may write, with
+// the definition of machine's Operations or of desk's Desk and Unbacked, for every input, refused input too, packed as packing's
+// specs/Packing says.
 ghost use mathlib.Core.Path.{_≡_};
 ghost use Prim.Native.Nat.{_≤_};
 ghost use mathlib.Core.Bool.{true, false, cond};
@@ -10,9 +11,10 @@ ghost use Rattle.machine.specs.Refusals.{translateVerdict, runVerdict};
 ghost use Rattle.machine.specs.Host.{host};
 ghost use Rattle.machine.specs.Sought.{endSought};
 ghost use Rattle.machine.specs.Operations.{check, translate, runAs};
-ghost use Rattle.packing.specs.Packing.{packedCheck, packedTranslation, placeAfter};
+ghost use Rattle.packing.specs.Packing.{packedCheck, packedTranslation, placeAfter, packedFound, placeAfterFound};
 ghost use Rattle.drevokas.specs.Giving.{Starts, Gives, answerSought, RunGives, DeskGives, ListGives};
 ghost use Rattle.desk.specs.Desk.{deskOf, listOf};
+ghost use Rattle.desk.specs.Unbacked.{unbackedOf};
 use desk::Change;
 use machine::Answer;
 use machine::End;
@@ -301,4 +303,23 @@ pub extern "C" fn drevokas_list_pages(
     ensures { λ x. ⌜ ListGives (listOf (now (r .entry)) designation (now (storage .entry)) (now (keys .entry)) (now (frames .entry))) x (now (frames .exit)) ⌝ }
 {
     packing::pack_listing(paging::list(r, storage, keys, designation, frames))
+}
+
+// Finds the lowest guest page from one up to another that is not valid: its number, none, code 32, or refused.
+#[no_mangle]
+pub extern "C" fn drevokas_first_unbacked(
+    r: &[u8],
+    storage: &[u8],
+    keys: &[u8],
+    designation: u32,
+    from: u32,
+    to: u32,
+    place: &mut u64,
+) -> u64
+    ensures { λ x. ⌜ (x ≡ packedFound (unbackedOf (now (r .entry)) designation (now (storage .entry)) (now (keys .entry)) from to))
+        × (now (place .exit) ≡ placeAfterFound (unbackedOf (now (r .entry)) designation (now (storage .entry)) (now (keys .entry)) from to) (now (place .entry))) ⌝ }
+{
+    let found = paging::first_unbacked(r, storage, keys, designation, from, to);
+    *place = packing::place_after_found(found, *place);
+    packing::pack_found(found)
 }

@@ -14,6 +14,8 @@ use Rattle.machine.specs.declared.Translated.{Translated}
 use Rattle.machine.specs.declared.Translated.the-variants as translated
 use Rattle.desk.specs.declared.Called.{Called}
 use Rattle.desk.specs.declared.Called.the-variants as called
+use Rattle.desk.specs.declared.Found.{Found}
+use Rattle.desk.specs.declared.Found.the-variants as found
 use Rattle.desk.specs.declared.Listed.{Listed}
 use Rattle.desk.specs.declared.Listed.the-variants as listed
 use Rattle.machine.specs.Answers.{reasonCode, endAddress, stageNumber}
@@ -42,6 +44,9 @@ exceptionKind = 4
 
 abbrev pub goodKind : ℕ
 goodKind = 5
+
+abbrev pub noneKind : ℕ
+noneKind = 6
 
 unfoldable pub packedCheck : Checked → ℕ
 packedCheck (checked.Refused number) = packed refusedKind number nowhere 0
@@ -94,3 +99,17 @@ unfoldable pub packedListing : Listed → ℕ
 packedListing (listed.Refused number) = packed refusedKind number nowhere 0
 packedListing listed.Validity = packed interceptedKind (reasonCode Validity) nowhere 0
 packedListing (listed.Pages valid) = packed goodKind 0 nowhere valid
+
+-- the answer to the question for the first unbacked page
+unfoldable pub packedFound : Found → ℕ
+packedFound (found.Refused number) = packed refusedKind number nowhere 0
+packedFound found.Validity = packed interceptedKind (reasonCode Validity) nowhere 0
+packedFound found.None = packed noneKind 0 nowhere 0
+packedFound (found.Page page) = packed goodKind 0 nowhere 0
+
+-- the page, else zero; a refusal leaves what stood there
+unfoldable pub placeAfterFound : Found → ℕ → ℕ
+placeAfterFound (found.Refused number) before = before
+placeAfterFound found.Validity before = 0
+placeAfterFound found.None before = 0
+placeAfterFound (found.Page page) before = page

@@ -4,8 +4,9 @@ ghost use mathlib.Core.Path.{_≡_};
 ghost use Prim.Native.Nat.{_+_, _*_, _%_, _<_};
 ghost use Rattle.machine.specs.Answers.{reasonCode, endAddress, stageNumber};
 ghost use Rattle.machine.specs.Sought.{nowhere};
-ghost use Rattle.packing.specs.Packing.{packed, packedCheck, packedFailure, packedTranslation, placeAfter, packedEnd, packedAnswer, placeAfterRun, packedCall, packedListing};
+ghost use Rattle.packing.specs.Packing.{packed, packedCheck, packedFailure, packedTranslation, placeAfter, packedEnd, packedAnswer, placeAfterRun, packedCall, packedListing, packedFound, placeAfterFound};
 use desk::Called;
+use desk::Found;
 use desk::Listed;
 use machine::Answer;
 use machine::Checked;
@@ -27,6 +28,8 @@ const BUDGET_USED: u64 = 3;
 const EXCEPTION: u64 = 4;
 
 const GOOD: u64 = 5;
+
+const NONE: u64 = 6;
 
 const VALIDITY: u32 = 32;
 
@@ -196,5 +199,28 @@ pub fn pack_listing(x: Listed) -> u64
         Listed::Refused(number) => pack(REFUSED, number),
         Listed::Validity => pack(INTERCEPTED, VALIDITY),
         Listed::Pages(valid) => pack_staged(GOOD, 0, Stage::None) + valid as u64,
+    }
+}
+
+pub fn pack_found(x: Found) -> u64
+    ensures { λ r. ⌜ r ≡ packedFound x ⌝ }
+{
+    match x {
+        Found::Refused(number) => pack(REFUSED, number),
+        Found::Validity => pack(INTERCEPTED, VALIDITY),
+        Found::None => pack(NONE, 0),
+        Found::Page(_) => pack(GOOD, 0),
+    }
+}
+
+// What stands at the caller's place after the question for the first unbacked page.
+pub fn place_after_found(x: Found, old: u64) -> u64
+    ensures { λ r. ⌜ r ≡ placeAfterFound x old ⌝ }
+{
+    match x {
+        Found::Refused(_) => old,
+        Found::Validity => 0,
+        Found::None => 0,
+        Found::Page(page) => page as u64,
     }
 }

@@ -1,5 +1,5 @@
-// The page desk: add, remove and protect one guest page, and list the frames of the guest's pages. Each contract equates answer, storage,
-// number and workspace with desk's definition, for every input, refused input too.
+// The page desk: add, remove and protect one guest page, list the frames of the guest's pages, and find the first unbacked page. Each
+// contract equates answer, storage, number and workspace with desk's definition, for every input, refused input too.
 ghost use mathlib.Core.Path.{_≡_};
 ghost use mathlib.Core.Bool.{true};
 ghost use mathlib.Core.List.{List};
@@ -10,12 +10,14 @@ ghost use Rattle.refusals.specs.Parts.{firstRefusal};
 ghost use Rattle.desk.specs.Reach.{pageReached};
 ghost use Rattle.desk.specs.Extent.{firstPage, pageCount};
 ghost use Rattle.desk.specs.Desk.{storageAfter, entangled, changeVerdict, deskVerdict, changeAs, changeOf, deskAs, deskOf, listFor, listAs, listOf};
+ghost use Rattle.desk.specs.Unbacked.{unbackedAs, unbackedOf};
 ghost use Rattle.survey.specs.Marking.{Tells};
 ghost use Rattle.changes.specs.Changing.{FrameFits};
 ghost use Rattle.paging.specs.Meeting.{Meets};
 ghost use Rattle.paging.specs.Giving.{Gives, Lists, Placed, Ready};
 use desk::Called;
 use desk::Change;
+use desk::Found;
 use desk::Listed;
 use machine::Guest;
 use machine::Verdict;
@@ -249,5 +251,34 @@ pub fn list(r: &[u8], storage: &[u8], keys: &[u8], designation: u32, words: &mut
     match refusals::desk_verdict(r, storage, keys) {
         Verdict::Refused(refusal) => Listed::Refused(refusal),
         Verdict::Accepted => list_accepted(r, storage, designation, words),
+    }
+}
+
+// The lowest page from one up to another that is not valid, once the input is accepted.
+fn unbacked_accepted(r: &[u8], storage: &[u8], designation: u32, from: u32, to: u32) -> Found
+    requires { ⌜ ((k : List ℕ) × (deskVerdict (now r) (now storage) k ≡ Verdict.Accepted)) ⌝ }
+    ensures { λ x. ⌜ x ≡ unbackedAs (now (r .entry)) designation (now (storage .entry)) from to Verdict.Accepted ⌝ }
+{
+    let guest = records::guest_of(r);
+    if !refusals::entry_good(guest, r.len() == LONG_RECORD) {
+        return Found::Validity;
+    }
+    backing::unbacked_for(storage, guest, designation, from, to)
+}
+
+// Finds the lowest page of the extent, from one up to another, that is not valid.
+pub fn first_unbacked(
+    r: &[u8],
+    storage: &[u8],
+    keys: &[u8],
+    designation: u32,
+    from: u32,
+    to: u32,
+) -> Found
+    ensures { λ x. ⌜ x ≡ unbackedOf (now (r .entry)) designation (now (storage .entry)) (now (keys .entry)) from to ⌝ }
+{
+    match refusals::desk_verdict(r, storage, keys) {
+        Verdict::Refused(refusal) => Found::Refused(refusal),
+        Verdict::Accepted => unbacked_accepted(r, storage, designation, from, to),
     }
 }

@@ -11,16 +11,15 @@ use borrow.Author.Tests.{ltb-true, ltb-false, lt-ltb, le-ltb, eqb-true, eqb-fals
 use lib.Dec.{eqb, ltb}
 use lib.ListN.{length, getD, set, length-set}
 use lib.Seq.{getD-set-same, getD-set-other, ext-getD}
-use Rattle.machine.specs.Words.{wordAt}
 use Rattle.machine.specs.Sizes.{segmentPages}
 use Rattle.machine.specs.Walk.{frameOf}
-use Rattle.machine.specs.Frames.{pageOf}
 use Rattle.desk.specs.Reach.{pageValid}
 use Rattle.desk.specs.Extent.{notValid, countBelow, wordsBelow, frameListed, validPages, listing}
 use Rattle.desk.proofs.Tables.{true-or-false}
-use Rattle.desk.proofs.Extents.{same-count, same-and}
+use Rattle.desk.proofs.Extents.{same-count}
 use Rattle.tables.specs.declared.Table.{Table}
 use Rattle.tables.specs.Tabling.{TableOf, wordValid, wordShown, entryOf, indexValid, indexShown, wordsFrom}
+use Rattle.tables.proofs.Pages.{valid-by-table, shown-by-table}
 
 -- one more
 
@@ -166,20 +165,6 @@ module _ (s : List ℕ) (t : Table) (from m count : ℕ) (few : m ≤ count) (re
       out-of-reach k h past =
           let is : at + m + (k - m) ≡ at + k = omega arith in
           rw (far k past h, hidden, ← is) (words-there (at + m) (count - m) (λ _. notValid) w₂ (k - m) (omega arith) (omega (arith, long₂)))
-
--- a page by its table
-module _ (d : ℕ) (s : List ℕ) (index : ℕ) (t : Table) (told : TableOf d s index t) (page : ℕ) (own : page / segmentPages ≡ index) where
-  entry-by-table : ltb (page % segmentPages) (t .limit) ≡ true → pageOf d s page ≡ entryOf s t (page % segmentPages)
-  entry-by-table e = ap (wordAt s) (told .place page own (ltb-true _ _ e))
-
-  pub valid-by-table : pageValid d s page ≡ indexValid s t (page % segmentPages)
-  unfolding pageValid indexValid wordValid
-  valid-by-table = rw (told .reach page own) (same-and _ _ refl λ e. rw (entry-by-table e))
-
-  pub shown-by-table : frameListed d s page ≡ indexShown s t (page % segmentPages)
-  unfolding frameListed indexShown wordShown indexValid
-  shown-by-table = rw valid-by-table
-      (true-or-false _ (ltb (page % segmentPages) (t .limit)) (λ e. rw (e, entry-by-table e)) (λ e. rw e))
 
 -- the pages of one segment after those before them
 module _ (first m n d : ℕ) (s : List ℕ) (page : ℕ) (t : Table) (is : page ≡ first + m) (told : TableOf d s (page / segmentPages) t) (few : page % segmentPages + n ≤ segmentPages) where

@@ -18,9 +18,9 @@ use Rattle.desk.specs.Reach.{pageReached, pageValid}
 use Rattle.desk.proofs.Tables.{both, and-true, never-both, true-or-false, segment-of-reached, reached-of-valid}
 use Rattle.tables.specs.declared.Table.{Table}
 use Rattle.tables.specs.Tabling.{outside, SegmentAt, TableOf, wordValid, wordNames, entryOf, indexValid, IndexAt}
+use Rattle.tables.proofs.Pages.{valid-by-table}
 use Rattle.survey.specs.Marking.{Marked, noted, Added, EntryIn, Names, SharedBy, SomePage, Tells, IndexMarked, EntryMarked}
 use Rattle.tables.proofs.Tabling.{index-of-page, place-of-page}
-use Rattle.survey.proofs.Listing.{valid-by-table}
 
 -- marks on frames
 

@@ -98,18 +98,6 @@ fn list_table(storage: &[u8], t: Table, from: u32, count: u32, words: &mut [u32]
     valid
 }
 
-// Where the pages of a page's segment end, or an earlier end.
-fn segment_end(page: u32, to: u32) -> u32
-    requires { ⌜ (page < to) × (to ≤ 524288) ⌝ }
-    ensures { λ r. ⌜ (page < r) × ((r ≤ to) × (r ≤ page / 256 * 256 + 256)) ⌝ }
-{
-    let end = page / 256 * 256 + 256;
-    if end < to {
-        return end;
-    }
-    to
-}
-
 // Lists the frames of so many host pages from the first on; answers how many are valid.
 pub fn list(storage: &[u8], designation: u32, first: u32, pages: u32, words: &mut [u32]) -> u32
     requires { ⌜ (first + pages ≤ 524288) × (pages ≤ length (now words)) ⌝ }
@@ -120,7 +108,7 @@ pub fn list(storage: &[u8], designation: u32, first: u32, pages: u32, words: &mu
     let mut valid = 0;
     let mut page = first;
     while page < to {
-        let next = segment_end(page, to);
+        let next = tables::segment_end(page, to);
         let t = tables::table_at(
             storage,
             tables::segment_at(storage, designation, page / 256),
@@ -207,7 +195,7 @@ pub fn mark_pages(
 {
     let mut page = from;
     while page < to {
-        let next = segment_end(page, to);
+        let next = tables::segment_end(page, to);
         mark_segment(storage, designation, page, next, entries, names);
         page = next;
     }
@@ -264,7 +252,7 @@ pub fn entries_marked(
 {
     let mut page = from;
     while page < to {
-        let next = segment_end(page, to);
+        let next = tables::segment_end(page, to);
         if segment_marked(storage, designation, page, next, names) {
             return true;
         }
@@ -330,7 +318,7 @@ pub fn shares(storage: &[u8], designation: u32, from: u32, to: u32, own: u32, pl
 {
     let mut page = from;
     while page < to {
-        let next = segment_end(page, to);
+        let next = tables::segment_end(page, to);
         if segment_shares(storage, designation, page, next, own, place) {
             return true;
         }

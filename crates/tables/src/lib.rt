@@ -1,7 +1,7 @@
 // A host segment's pages by its entry: where the entry stands, and the page table that it names, with how many of its entries are in
 // reach. What is found serves every page of the segment. Each contract equates with the tests of desk's Reach.
 ghost use mathlib.Core.Path.{_≡_};
-ghost use Prim.Native.Nat.{ℕ, _+_, _≤_, _<_};
+ghost use Prim.Native.Nat.{ℕ, _+_, _*_, _/_, _≤_, _<_};
 ghost use lib.Dec.{ltb};
 ghost use lib.ListN.{length};
 ghost use Rattle.tables.specs.Tabling.{SegmentAt, TableOf, PageAt, Inside, Cut, wordValid};
@@ -100,6 +100,18 @@ pub fn reach_from(t: Table, from: u32, count: u32) -> u32
         return t.limit - from;
     }
     count
+}
+
+// Where the pages of a page's segment end, or an earlier end.
+pub fn segment_end(page: u32, to: u32) -> u32
+    requires { ⌜ (page < to) × (to ≤ 524288) ⌝ }
+    ensures { λ r. ⌜ (page < r) × ((r ≤ to) × (r ≤ page / 256 * 256 + 256)) ⌝ }
+{
+    let end = page / 256 * 256 + 256;
+    if end < to {
+        return end;
+    }
+    to
 }
 
 // Where the page entry of a host page stands.

@@ -1,6 +1,6 @@
-//! The page desk: add, remove and protect one guest page, list the frames of all, written from request 3/12 of
-//! document 02 and the terms of document 01 alone. Every set is made anew from the tables, page by page, so that each
-//! sentence of the request stands in one place.
+//! The page desk: add, remove and protect one guest page, list the frames of all, find the first unbacked page, written
+//! from requests 3/12 and 4/12 of document 02 and the terms of document 01 alone. Every set is made anew from the
+//! tables, page by page, so that each sentence of the requests stands in one place.
 
 use crate::model::{self, bit, word, FRAME};
 use std::collections::BTreeSet;
@@ -23,6 +23,18 @@ pub enum Answer {
     EntryFailed,
     /// Of list the number of valid pages, else 0.
     Done(u32),
+}
+
+/// The answer to the question for the first unbacked page.
+#[derive(Clone, Copy, PartialEq, Eq, Debug)]
+pub enum Unbacked {
+    /// The number of the refusal.
+    Refused(u8),
+    /// Code 32.
+    EntryFailed,
+    Page(u32),
+    /// "exactly when every page asked about is valid"
+    None,
 }
 
 /// Which parts of refusal 14 hold.
@@ -178,7 +190,7 @@ fn change(record: &[u8], storage: &mut [u8], designation: u32, page: u32, entry:
 }
 
 // ---------------------------------------------------------------------------------------------------------------
-// The four calls: "in that order, after 1 to 4, 7 and an entry failure".
+// The four calls of request 3/12: "in that order, after 1 to 4, 7 and an entry failure".
 
 fn turned_away(record: &[u8], storage: &[u8], keys: &[u8]) -> Option<Answer> {
     let refusal = model::refuse_record(record)
@@ -297,4 +309,29 @@ pub fn call(
         Call::Protect { page } => protect_page(record, storage, keys, designation, page),
         Call::List => list_pages(record, storage, keys, designation, words).into(),
     }
+}
+
+// ---------------------------------------------------------------------------------------------------------------
+// The first unbacked page. "Nothing is changed."
+
+/// "1 to 4, then 7, an entry failure, then 16 when A is above B or B is past the extent". A is from, B is to.
+pub fn first_unbacked(record: &[u8], storage: &[u8], keys: &[u8], designation: u32, from: u32, to: u32) -> Unbacked {
+    match turned_away(record, storage, keys) {
+        Some(Answer::Refused(number)) => return Unbacked::Refused(number),
+        Some(_) => return Unbacked::EntryFailed,
+        None => {}
+    }
+    let tables = Tables { record, storage, designation };
+    if from > to || to > tables.pages() {
+        return Unbacked::Refused(16);
+    }
+    match survey(tables, from, to).first() {
+        Some(&page) => Unbacked::Page(page),
+        None => Unbacked::None,
+    }
+}
+
+/// All pages "from A up to but not including B" that have "no valid host entry", in order.
+pub fn survey(tables: Tables, from: u32, to: u32) -> Vec<u32> {
+    (from..to).filter(|&page| !tables.is_valid(page)).collect()
 }

@@ -1,6 +1,6 @@
 //! The C functions of drevokas.h, and the unpacking of their answers.
 
-use crate::desk::{self, Call};
+use crate::desk::{self, Call, Unbacked};
 use crate::model::{Answer, Table};
 
 extern "C" {
@@ -81,6 +81,19 @@ extern "C" {
         frames: *mut u32,
         count: usize,
     ) -> u64;
+
+    fn drevokas_first_unbacked(
+        record: *const u8,
+        record_len: usize,
+        storage: *const u8,
+        storage_len: usize,
+        keys: *const u8,
+        keys_len: usize,
+        designation: u32,
+        from: u32,
+        to: u32,
+        location: *mut u64,
+    ) -> u64;
 }
 
 /// The kinds of an answer.
@@ -90,6 +103,7 @@ pub const HOST_FAULT: u32 = 2;
 pub const BUDGET_USED: u32 = 3;
 pub const PROGRAM_EXCEPTION: u32 = 4;
 pub const GOOD: u32 = 5;
+pub const NONE: u32 = 6;
 
 /// What stands in *where before each call. A refusal must leave it.
 pub const NOT_TOUCHED: u64 = 0x5A5A_0123_4567_A5A5;
@@ -303,6 +317,42 @@ pub fn list_pages(record: &[u8], storage: &[u8], keys: &[u8], designation: u32, 
             designation,
             words.as_mut_ptr(),
             words.len(),
+        )
+    }
+}
+
+/// The answer that the library owes for an answer of the model: a page in *where, which has zeros else.
+pub fn pack_unbacked(answer: Unbacked) -> Packed {
+    let (kind, number, location) = match answer {
+        Unbacked::Refused(number) => (REFUSED, number, NOT_TOUCHED),
+        Unbacked::EntryFailed => (INTERCEPTED, 32, 0),
+        Unbacked::Page(page) => (GOOD, 0, page as u64),
+        Unbacked::None => (NONE, 0, 0),
+    };
+    Packed { word: (kind as u64) << 56 | (number as u64) << 48, location }
+}
+
+pub fn first_unbacked(
+    record: &[u8],
+    storage: &[u8],
+    keys: &[u8],
+    designation: u32,
+    from: u32,
+    to: u32,
+    location: &mut u64,
+) -> u64 {
+    unsafe {
+        drevokas_first_unbacked(
+            record.as_ptr(),
+            record.len(),
+            storage.as_ptr(),
+            storage.len(),
+            keys.as_ptr(),
+            keys.len(),
+            designation,
+            from,
+            to,
+            location,
         )
     }
 }

@@ -1,10 +1,13 @@
 //! What the programs print: the tally of ends, differences, and cases as files.
 
+use crate::desk::Tables;
 use crate::ffi::{self, Packed};
 use crate::generate::{Case, Machine};
 use crate::model::{self, Answer, Form, Run, Stage, Table, Walk, FRAME, SVC_INTERRUPTION};
 use std::collections::BTreeMap;
+use std::fmt::Display;
 use std::fs;
+use std::time::Instant;
 
 /// The machines that are tried.
 pub const MACHINES: [Machine; 3] = [Machine::Xa, Machine::System370, Machine::XaLarger];
@@ -495,6 +498,52 @@ fn print_units(name: &str, units: &mut [u32]) {
         units[units.len() - 1],
         sum as f64 / units.len() as f64
     );
+}
+
+/// Why the entry of a page of the extent is out of reach.
+pub const OUT_OF_REACH: [&str; 6] = [
+    "segment over the length",
+    "segment entry past the storage",
+    "segment entry invalid",
+    "segment entry malformed",
+    "page over the length",
+    "page entry past the storage",
+];
+
+/// None where the entry is in reach.
+pub fn out_of_reach(tables: Tables, page: u32) -> Option<&'static str> {
+    if tables.page_entry(page).is_some() {
+        return None;
+    }
+    let segment = tables.host_page(page) >> 8;
+    if segment >> 4 > tables.designation & 0x7F {
+        return Some(OUT_OF_REACH[0]);
+    }
+    let Some(at) = tables.segment_entry(segment) else { return Some(OUT_OF_REACH[1]) };
+    let entry = model::word(tables.storage, at);
+    let reason = match entry {
+        _ if entry & 0x20 != 0 => 2,
+        _ if entry & 0x8000_0000 != 0 => 3,
+        _ if tables.host_page(page) >> 4 & 15 > entry & 15 => 4,
+        _ => 5,
+    };
+    Some(OUT_OF_REACH[reason])
+}
+
+/// Prints how often each outcome occurred, and the time. Ends the program where one that is owed occurred too seldom.
+pub fn settle<Name: Ord + Display>(tally: &BTreeMap<Name, u64>, start: Instant, owed: &[Name], least: u64) {
+    for (name, count) in tally {
+        println!("  {name:54} {count:8}");
+    }
+    println!("{:.1} seconds", start.elapsed().as_secs_f64());
+    let seldom = |name: &&Name| tally.get(name).copied().unwrap_or(0) < least;
+    let seldom: Vec<&Name> = owed.iter().filter(seldom).collect();
+    for name in &seldom {
+        println!("occurred too seldom: {name}");
+    }
+    if !seldom.is_empty() {
+        std::process::exit(1);
+    }
 }
 
 /// The numbers of the command line: cases and seed.

@@ -29,18 +29,7 @@ fn main() {
             *tally.entry(name).or_insert(0) += 1;
         }
     }
-    for (name, count) in &tally {
-        println!("  {name:54} {count:8}");
-    }
-    println!("{:.1} seconds", start.elapsed().as_secs_f64());
-    let seldom = |name: &String| tally.get(name).is_none_or(|&count| count * 2000 < cases);
-    let seldom: Vec<String> = owed().into_iter().filter(|name| cases >= 20_000 && seldom(name)).collect();
-    for name in &seldom {
-        println!("occurred too seldom: {name}");
-    }
-    if !seldom.is_empty() {
-        exit(1);
-    }
+    report::settle(&tally, start, &owed(), if cases >= 20_000 { cases.div_ceil(2000) } else { 0 });
     println!("desk_calls: no difference");
 }
 
@@ -154,7 +143,7 @@ fn names(case: &DeskCase, outcome: &Outcome) -> Vec<String> {
         Answer::Done(_) => "done".to_string(),
     };
     let more = match outcome.answer {
-        Answer::Refused(10) => vec![out_of_reach(case)],
+        Answer::Refused(10) => vec![why_refused(case)],
         Answer::Done(_) => circumstances(case),
         _ => Vec::new(),
     };
@@ -163,37 +152,18 @@ fn names(case: &DeskCase, outcome: &Outcome) -> Vec<String> {
     [vec![name], more].concat()
 }
 
-/// Why a page is refused with 10.
-const REASONS: [&str; 7] = [
-    "outside the extent",
-    "segment over the length",
-    "segment entry past the storage",
-    "segment entry invalid",
-    "segment entry malformed",
-    "page over the length",
-    "page entry past the storage",
-];
+/// Why a page is refused with 10, where its entry is not out of reach.
+const OUTSIDE: &str = "outside the extent";
 
-fn out_of_reach(case: &DeskCase) -> &'static str {
+fn why_refused(case: &DeskCase) -> &'static str {
     let tables = tables(case);
     let (Call::Add { page, .. } | Call::Remove { page } | Call::Protect { page }) = case.call else {
         unreachable!("the list has no page")
     };
     if page >= tables.pages() {
-        return REASONS[0];
+        return OUTSIDE;
     }
-    let segment = tables.host_page(page) >> 8;
-    if segment >> 4 > tables.designation & 0x7F {
-        return REASONS[1];
-    }
-    let Some(at) = tables.segment_entry(segment) else { return REASONS[2] };
-    let entry = model::word(tables.storage, at);
-    match entry {
-        _ if entry & 0x20 != 0 => REASONS[3],
-        _ if entry & 0x8000_0000 != 0 => REASONS[4],
-        _ if tables.host_page(page) >> 4 & 15 > entry & 15 => REASONS[5],
-        _ => REASONS[6],
-    }
+    report::out_of_reach(tables, page).expect("refusal 10")
 }
 
 fn tables(case: &DeskCase) -> Tables<'_> {
@@ -286,7 +256,8 @@ fn owed() -> Vec<String> {
     for call in ["add", "remove", "protect"] {
         owe(call, &conflicts);
         owe(call, &["refusal 10"]);
-        owe(&format!("{call}, refusal 10"), &REASONS);
+        owe(&format!("{call}, refusal 10"), &[OUTSIDE]);
+        owe(&format!("{call}, refusal 10"), &report::OUT_OF_REACH);
         owe(&format!("{call}, done"), &[SHARED_OUTSIDE, SEGMENT_OUTSIDE]);
     }
     owe("add", &["refusal 11", "refusal 13"]);

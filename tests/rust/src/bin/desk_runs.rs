@@ -1,10 +1,11 @@
-//! desk_runs [CASES] [SEED]: calls at the page desk and runs in turn, on one host by library and model, and by the
-//! library on a second host. The second agrees on the record, the entries that describe the extent, the guest frames
-//! and the frames to be added, with their keys, and differs at random in all else. After each step library and model
-//! agree; both hosts answer alike and agree still; nothing outside is touched; and the number kept is that of the valid
-//! pages.
+//! desk_runs [CASES] [SEED]: calls at the page desk, questions for the first unbacked page and runs in turn, on one
+//! host by library and model, and by the library on a second host. The second agrees on the record, the entries that
+//! describe the extent, the guest frames and the frames to be added, with their keys, and differs at random in all
+//! else. After each step library and model agree; both hosts answer alike and agree still; nothing outside is touched;
+//! and the number kept is that of the valid pages.
 
 use drevokas_tests::desk::{self, Call, Tables};
+use drevokas_tests::generate::desk::first_unbacked::next_question;
 use drevokas_tests::generate::desk::{desk_host, next_call};
 use drevokas_tests::generate::{self, Case, Rng, Wishes};
 use drevokas_tests::model::{self, FRAME};
@@ -13,7 +14,7 @@ use std::collections::{BTreeMap, BTreeSet};
 use std::process::exit;
 use std::time::Instant;
 
-const STEPS: u32 = 12;
+const STEPS: u32 = 14;
 
 /// Larger extents and storages are left out: each step looks at every page and every byte.
 const MOST_BLOCKS: u32 = 70;
@@ -23,6 +24,8 @@ const MOST_FRAMES: usize = 40;
 enum Step {
     Run,
     Call(Call),
+    /// For the first unbacked page.
+    Ask { from: u32, to: u32 },
 }
 
 /// A host with one guest, and the number of valid pages kept beside the designation.
@@ -38,7 +41,7 @@ impl Host {
         Tables { record: &self.case.record, storage: &self.case.storage, designation: self.case.designation }
     }
 
-    /// The answer, and *where of a run.
+    /// The answer, and *where of a run and a question.
     fn by_library(&mut self, step: Step) -> (u64, u64) {
         let Case { record, storage, keys, designation, clock, time, budget, .. } = &mut self.case;
         match step {
@@ -50,6 +53,11 @@ impl Host {
             Step::Call(call) => {
                 let (number, words) = (&mut self.number, &mut self.words);
                 (ffi::desk_call(record, storage, keys, *designation, call, number, words), 0)
+            }
+            Step::Ask { from, to } => {
+                let mut location = ffi::NOT_TOUCHED;
+                let word = ffi::first_unbacked(record, storage, keys, *designation, from, to, &mut location);
+                (word, location)
             }
         }
     }
@@ -67,6 +75,11 @@ impl Host {
                 let (number, words) = (&mut self.number, &mut self.words);
                 let outcome = desk::call(record, storage, keys, *designation, call, number, words);
                 (ffi::pack_desk(outcome.answer), 0)
+            }
+            Step::Ask { from, to } => {
+                let answer = desk::first_unbacked(record, storage, keys, *designation, from, to);
+                let answer = ffi::pack_unbacked(answer);
+                (answer.word, answer.location)
             }
         }
     }
@@ -124,18 +137,7 @@ fn main() {
             exit(1);
         }
     }
-    for (name, count) in &tally {
-        println!("  {name:54} {count:8}");
-    }
-    println!("{:.1} seconds", start.elapsed().as_secs_f64());
-    let seldom = |name: &&str| tally.get(*name).is_none_or(|&count| count * 20 < cases);
-    let seldom: Vec<&str> = OWED.into_iter().filter(|name| cases >= 1_000 && seldom(name)).collect();
-    for name in &seldom {
-        println!("occurred too seldom: {name}");
-    }
-    if !seldom.is_empty() {
-        exit(1);
-    }
+    report::settle(&tally, start, &OWED, if cases >= 1_000 { cases.div_ceil(20) } else { 0 });
     println!("desk_runs: holds");
 }
 
@@ -164,10 +166,31 @@ const PROTECTED: &str = "pages protected";
 const REFUSED: &str = "calls refused";
 const CONFLICTS: &str = "calls refused with 14";
 const STORES: &str = "runs that store into an added frame";
+const FOUND: &str = "questions that find a page";
+const FOUND_HIGHER: &str = "questions that find a higher page after an add";
+const FOUND_NONE: &str = "questions that find none";
+const FOUND_ADDED: &str = "pages added that a question found";
+const NOT_ANSWERED: &str = "questions refused";
 
 /// What must occur once in 20 cases, where there are 1,000 at least.
-const OWED: [&str; 11] =
-    [TWO_HOSTS, ONE_HOST, RUNS, AFTER_CHANGE, GOES_ON, ADDED, REMOVED, PROTECTED, REFUSED, CONFLICTS, STORES];
+const OWED: [&str; 16] = [
+    TWO_HOSTS,
+    ONE_HOST,
+    RUNS,
+    AFTER_CHANGE,
+    GOES_ON,
+    ADDED,
+    REMOVED,
+    PROTECTED,
+    REFUSED,
+    CONFLICTS,
+    STORES,
+    FOUND,
+    FOUND_HIGHER,
+    FOUND_NONE,
+    FOUND_ADDED,
+    NOT_ANSWERED,
+];
 
 /// The steps made so far, where the last went wrong.
 fn sequence(rng: &mut Rng, case: &Case, tally: &mut Tally) -> Result<(), Vec<Step>> {
@@ -305,6 +328,10 @@ struct Watch {
     mended: bool,
     changed: bool,
     added: BTreeSet<usize>,
+    /// The last question that found a page, and the page, until the next run.
+    found: Option<(Step, u32)>,
+    /// It was added.
+    backed: bool,
 }
 
 impl Watch {
@@ -312,46 +339,71 @@ impl Watch {
         if let Some(page) = self.lacked.filter(|_| !self.mended && rng.percent(70)) {
             return Step::Call(Call::Add { page, frame: rng.pick(frames) });
         }
+        if let Some((question, page)) = self.found.filter(|_| rng.percent(60)) {
+            return if self.backed { question } else { Step::Call(Call::Add { page, frame: rng.pick(frames) }) };
+        }
         if self.mended && rng.percent(80) || rng.percent(40) {
             return Step::Run;
+        }
+        if rng.percent(20) {
+            let (from, to) = next_question(rng, host.tables().pages());
+            return Step::Ask { from, to };
         }
         Step::Call(next_call(rng, host.tables(), frames))
     }
 
     fn see(&mut self, before: &Host, after: &Host, step: Step, answer: (u64, u64), tally: &mut Tally) {
-        let mut count = |name, holds: bool| *tally.entry(name).or_default() += holds as u64;
-        let (kind, number) = ((answer.0 >> 56) as u32, answer.0 >> 48 & 0xFF);
-        let done = kind == ffi::GOOD;
+        let count = |name, holds: bool| *tally.entry(name).or_default() += holds as u64;
         match step {
-            Step::Run => {
-                let went = answer.0 as u32 > 0;
-                count(RUNS, went);
-                count(AFTER_CHANGE, went && self.changed);
-                count(GOES_ON, went && self.mended);
-                let changed = |frame: &&usize| {
-                    let bytes = **frame * FRAME..(**frame + 1) * FRAME;
-                    before.case.storage[bytes.clone()] != after.case.storage[bytes]
-                };
-                count(STORES, self.added.iter().any(|frame| changed(&frame)));
-                *self = Watch { added: std::mem::take(&mut self.added), ..Watch::default() };
-                if kind == ffi::HOST_FAULT && number == 0x11 {
-                    let address = (answer.1 as u32) - model::origin_bytes(&after.case.record);
-                    self.lacked = Some(address >> 12);
-                }
-            }
-            Step::Call(call) => {
-                count(REFUSED, kind == ffi::REFUSED);
-                count(CONFLICTS, kind == ffi::REFUSED && number == 14);
-                let (added, removed) = (matches!(call, Call::Add { .. }), matches!(call, Call::Remove { .. }));
-                count(ADDED, done && added);
-                count(REMOVED, done && removed);
-                count(PROTECTED, done && matches!(call, Call::Protect { .. }));
-                self.changed |= done && call != Call::List;
-                if let (Call::Add { page, frame }, true) = (call, done) {
-                    self.mended |= self.lacked == Some(page);
-                    self.added.insert(frame as usize);
-                }
-            }
+            Step::Run => self.see_run(before, after, answer, count),
+            Step::Call(call) => self.see_call(call, answer.0, count),
+            Step::Ask { .. } => self.see_answer(step, answer, count),
         }
+    }
+
+    fn see_run(&mut self, before: &Host, after: &Host, answer: (u64, u64), mut count: impl FnMut(&'static str, bool)) {
+        let went = answer.0 as u32 > 0;
+        count(RUNS, went);
+        count(AFTER_CHANGE, went && self.changed);
+        count(GOES_ON, went && self.mended);
+        let changed = |frame: &usize| {
+            let bytes = frame * FRAME..(frame + 1) * FRAME;
+            before.case.storage[bytes.clone()] != after.case.storage[bytes]
+        };
+        count(STORES, self.added.iter().any(changed));
+        *self = Watch { added: std::mem::take(&mut self.added), ..Watch::default() };
+        if answer.0 >> 48 == (ffi::HOST_FAULT as u64) << 8 | 0x11 {
+            let address = (answer.1 as u32) - model::origin_bytes(&after.case.record);
+            self.lacked = Some(address >> 12);
+        }
+    }
+
+    fn see_call(&mut self, call: Call, answer: u64, mut count: impl FnMut(&'static str, bool)) {
+        let (kind, number) = ((answer >> 56) as u32, answer >> 48 & 0xFF);
+        let done = kind == ffi::GOOD;
+        count(REFUSED, kind == ffi::REFUSED);
+        count(CONFLICTS, kind == ffi::REFUSED && number == 14);
+        count(ADDED, done && matches!(call, Call::Add { .. }));
+        count(REMOVED, done && matches!(call, Call::Remove { .. }));
+        count(PROTECTED, done && matches!(call, Call::Protect { .. }));
+        self.changed |= done && call != Call::List;
+        if let (Call::Add { page, frame }, true) = (call, done) {
+            let found = self.found.is_some_and(|(_, found)| found == page);
+            count(FOUND_ADDED, found);
+            self.backed |= found;
+            self.mended |= self.lacked == Some(page);
+            self.added.insert(frame as usize);
+        }
+    }
+
+    fn see_answer(&mut self, question: Step, answer: (u64, u64), mut count: impl FnMut(&'static str, bool)) {
+        let (kind, page) = ((answer.0 >> 56) as u32, answer.1 as u32);
+        let found = kind == ffi::GOOD;
+        count(FOUND, found);
+        count(FOUND_HIGHER, found && self.backed && self.found.is_some_and(|(_, last)| page > last));
+        count(FOUND_NONE, kind == ffi::NONE);
+        count(NOT_ANSWERED, kind == ffi::REFUSED);
+        self.found = found.then_some((question, page));
+        self.backed = false;
     }
 }

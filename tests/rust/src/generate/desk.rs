@@ -5,6 +5,8 @@ use super::{Builder, Case, Machine, Rng};
 use crate::desk::{Call, Tables};
 use crate::model::{self, FRAME};
 
+pub mod first_unbacked;
+
 /// All that is handed in to a call.
 #[derive(Clone)]
 pub struct DeskCase {
