@@ -10,6 +10,7 @@ use Rattle.machine.specs.Words.{byteAt, halfAt, wordAt}
 use Rattle.machine.specs.Sizes.{segmentPages}
 use Rattle.desk.specs.Reach.{pageValid}
 use Rattle.desk.proofs.Tables.{true-or-false}
+use Rattle.desk.proofs.Surveys.{AllPass}
 use Rattle.tables.specs.declared.Table.{Table}
 use Rattle.tables.specs.Tabling.{TableOf, wordValid, entryOf, indexValid}
 use Rattle.tables.proofs.Pages.{valid-by-table}
@@ -68,11 +69,8 @@ module _ (s : List ℕ) (a number : ℕ) (read : Bytes s a number) where
         bit-23 _ _ _ _ (read .first) (read .second) (read .third) (read .fourth),
       )
 
--- the tests of all numbers below one are true
-abbrev pub Passed : (ℕ → Bool) → ℕ → ℕ → Type 0
-Passed test from to = (k : ℕ) → from ≤ k → k < to → test k ≡ true
-
-pub one-more : (test : ℕ → Bool) (from k : ℕ) → Passed test from k → test k ≡ true → Passed test from (k + 1)
+-- one number more whose test is true
+pub one-more : (test : ℕ → Bool) (from k : ℕ) → AllPass test from k → test k ≡ true → AllPass test from (k + 1)
 one-more test from k passed e q low high =
     true-or-false _ (eqb q k)
     (λ f. rw (eqb-true q k f) e)
@@ -94,10 +92,10 @@ module _ (s : List ℕ) (t : Table) (from m count : ℕ) (few : m ≤ count) (re
   unfolding indexValid
   by-entry k h = rw (near k h)
 
-  pub stops-at : (k : ℕ) → k < m → Passed valid 0 k → valid k ≡ false → Lowest valid 0 count k
+  pub stops-at : (k : ℕ) → k < m → AllPass valid 0 k → valid k ≡ false → Lowest valid 0 count k
   stops-at k h passed e = record { low = omega arith; high = omega arith; passed = passed; fails = λ _. e }
 
-  pub stops-out-of-reach : Passed valid 0 m → Lowest valid 0 count m
+  pub stops-out-of-reach : AllPass valid 0 m → Lowest valid 0 count m
   unfolding indexValid
   stops-out-of-reach passed = record {
     low = omega arith;
@@ -116,7 +114,7 @@ module _ (d : ℕ) (s : List ℕ) (from page next to : ℕ) (t : Table) (told : 
       let is : (page + k) % segmentPages ≡ page % segmentPages + k = omega arith in
       rw (← is) (valid-by-table d s (page / segmentPages) t told (page + k) own)
 
-  pub passed-on : Passed (pageValid d s) from page → Passed (pageValid d s) from (page + m)
+  pub passed-on : AllPass (pageValid d s) from page → AllPass (pageValid d s) from (page + m)
   passed-on passed q low′ high =
       true-or-false _ (ltb q page) (λ e. passed q low′ (ltb-true q page e))
       (λ e.
@@ -125,7 +123,7 @@ module _ (d : ℕ) (s : List ℕ) (from page next to : ℕ) (t : Table) (told : 
       let short : q - page < next - page = omega (arith, first .high) in
       rw (← is) (by-index (q - page) short ∙ first .passed (q - page) (omega arith) (omega arith)))
 
-  pub found-there : Passed (pageValid d s) from page → page + m < next → Lowest (pageValid d s) from to (page + m)
+  pub found-there : AllPass (pageValid d s) from page → page + m < next → Lowest (pageValid d s) from to (page + m)
   found-there passed h = record {
     low = omega arith;
     high = omega arith;
@@ -133,8 +131,8 @@ module _ (d : ℕ) (s : List ℕ) (from page next to : ℕ) (t : Table) (told : 
     fails = λ _. by-index m (omega arith) ∙ first .fails (omega arith);
   }
 
-  pub all-passed : Passed (pageValid d s) from page → next ≤ page + m → Passed (pageValid d s) from next
+  pub all-passed : AllPass (pageValid d s) from page → next ≤ page + m → AllPass (pageValid d s) from next
   all-passed passed h = let is : page + m ≡ next = omega (arith, first .high) in rw is at (passed-on passed)
 
-pub all-of-them : (test : ℕ → Bool) (from to : ℕ) → from ≤ to → Passed test from to → Lowest test from to to
+pub all-of-them : (test : ℕ → Bool) (from to : ℕ) → from ≤ to → AllPass test from to → Lowest test from to to
 all-of-them test from to order passed = record { low = order; high = omega arith; passed = passed; fails = λ h. absurd (omega arith) }

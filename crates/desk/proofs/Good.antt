@@ -1,5 +1,5 @@
 -- Good calls are done.
-use Prim.Native.Nat.{ℕ, _+_, _<_}
+use Prim.Native.Nat.{ℕ, _+_}
 use mathlib.Core.Path.{_≡_, refl, _∙_}
 use mathlib.Core.Bool.{Bool, true, false}
 use mathlib.Core.List.{List}
@@ -9,13 +9,11 @@ use Rattle.machine.specs.declared.Verdict.{Verdict}
 use Rattle.machine.specs.declared.Verdict.the-variants.{Accepted}
 use Rattle.machine.specs.Record.{guestOf}
 use Rattle.machine.specs.Refusals.{framesOf, translateVerdict, wrongAccess}
-use Rattle.machine.specs.Entry.{entryGood}
 use Rattle.machine.specs.Frames.{ValidPage}
 use Rattle.machine.specs.Theorems.{GoodInput}
 use Rattle.machine.proofs.Accepted.{good-input-is-accepted}
 use Rattle.desk.specs.declared.Change.{Change}
 use Rattle.desk.specs.declared.Change.the-variants.{Add, Remove, Protect}
-use Rattle.desk.specs.declared.Called.the-variants.{Done}
 use Rattle.desk.specs.Reach.{pageValid}
 use Rattle.desk.specs.Extent.{firstPage, pageCount, entryInFrame, servesSecondPage, servesAsSegment}
 use Rattle.desk.specs.Desk.{storageAfter, outOfReach, stateVerdict, entangled, changeVerdict, deskVerdict, changeAs, changeOf, deskAs, deskOf, listFor, listAs, listOf}

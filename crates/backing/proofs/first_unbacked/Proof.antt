@@ -5,12 +5,13 @@ use native.Mathlib.Omega.{arith}
 use mathlib.Core.Path.{_≡_}
 use borrow.Author.Needs.{needs}
 use Rattle.desk.specs.Reach.{pageValid}
-use Rattle.backing.proofs.Lowest.{Passed, found-there, all-passed, all-of-them}
+use Rattle.desk.proofs.Surveys.{AllPass}
+use Rattle.backing.proofs.Lowest.{found-there, all-passed, all-of-them}
 use Rattle.backing.proofs.first_unbacked.Statement.{statement}
 use Rattle.backing.proofs.first_unbacked.Tie as tie
 
 abbrev Inv-loop : tie.InvT-loop
-Inv-loop storage designation from to page₀ page = (from ≤ page) × (page ≤ to) × Passed (pageValid designation storage) from page
+Inv-loop storage designation from to page₀ page = (from ≤ page) × (page ≤ to) × AllPass (pageValid designation storage) from page
 
 abbrev μ-loop : tie.MeasureT-loop
 μ-loop storage designation from to page₀ page = to - page

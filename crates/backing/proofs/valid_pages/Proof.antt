@@ -6,12 +6,13 @@ use mathlib.Core.Path.{_≡_, sym, _∙_}
 use borrow.Author.Tests.{not-true, not-false}
 use borrow.Author.Needs.{needs}
 use Rattle.tables.specs.Tabling.{indexValid}
-use Rattle.backing.proofs.Lowest.{Passed, one-more, in-reach, by-entry, stops-at, stops-out-of-reach}
+use Rattle.desk.proofs.Surveys.{AllPass}
+use Rattle.backing.proofs.Lowest.{one-more, in-reach, by-entry, stops-at, stops-out-of-reach}
 use Rattle.backing.proofs.valid_pages.Statement.{statement}
 use Rattle.backing.proofs.valid_pages.Tie as tie
 
 abbrev Inv-loop : tie.InvT-loop
-Inv-loop storage t from count reach k₀ k = (k ≤ reach) × Passed (λ i. indexValid storage t (from + i)) 0 k
+Inv-loop storage t from count reach k₀ k = (k ≤ reach) × AllPass (λ i. indexValid storage t (from + i)) 0 k
 
 abbrev μ-loop : tie.MeasureT-loop
 μ-loop storage t from count reach k₀ k = reach - k
