@@ -15,7 +15,8 @@ use Rattle.machine.specs.Entry.{entryGood}
 use Rattle.machine.specs.Sought.{nowhere, endSought}
 use Rattle.machine.specs.Operations.{Result, runOf}
 use Rattle.desk.specs.Desk as desk
-use Rattle.packing.specs.Packing.{packedAnswer, placeAfterRun, packedCall, packedListing}
+use Rattle.packing.specs.Packing.{packedAnswer, placeAfterRun}
+use Rattle.replies.specs.Replying.{packedCall, packedListing}
 
 -- the input of a run is accepted, and entry lets the guest through
 pub record Starts (n : Numbers) (r storage keys : List ℕ) (g : Guest) : Type 0 where

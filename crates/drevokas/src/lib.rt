@@ -11,7 +11,8 @@ ghost use Rattle.machine.specs.Refusals.{translateVerdict, runVerdict};
 ghost use Rattle.machine.specs.Host.{host};
 ghost use Rattle.machine.specs.Sought.{endSought};
 ghost use Rattle.machine.specs.Operations.{check, translate, runAs};
-ghost use Rattle.packing.specs.Packing.{packedCheck, packedTranslation, placeAfter, packedFound, placeAfterFound};
+ghost use Rattle.inspections.specs.Inspecting.{packedCheck, packedTranslation, placeAfter};
+ghost use Rattle.replies.specs.Replying.{packedFound, placeAfterFound};
 ghost use Rattle.drevokas.specs.Giving.{Starts, Gives, answerSought, RunGives, DeskGives, ListGives};
 ghost use Rattle.desk.specs.Desk.{deskOf, listOf};
 ghost use Rattle.desk.specs.Unbacked.{unbackedOf};
@@ -37,7 +38,7 @@ const WRONG_LENGTH: u32 = 1;
 pub extern "C" fn drevokas_check(r: &[u8]) -> u64
     ensures { λ x. ⌜ x ≡ packedCheck (check (now (r .entry))) ⌝ }
 {
-    packing::pack_check(inspect::check(r))
+    inspections::pack_check(inspect::check(r))
 }
 
 // translate, once the input is accepted: the answer is packed, and what it says of the address stands at the place.
@@ -56,12 +57,12 @@ fn translate_accepted(
 {
     if refusals::xa_mode(r[4]) {
         let t = inspect::translate_xa(r, storage, keys, designation, a, kind);
-        *place = packing::place_after(t, *place);
-        return packing::pack_translation(t);
+        *place = inspections::place_after(t, *place);
+        return inspections::pack_translation(t);
     }
     let t = inspect::translate_other(r, storage, keys, designation, a, kind);
-    *place = packing::place_after(t, *place);
-    packing::pack_translation(t)
+    *place = inspections::place_after(t, *place);
+    inspections::pack_translation(t)
 }
 
 // Translates one guest address: the host absolute address, code 32, a guest program exception, a host fault, or refused.
@@ -79,19 +80,19 @@ pub extern "C" fn drevokas_translate(
         × (now (place .exit) ≡ placeAfter (translate (now (r .entry)) (host designation (now (storage .entry)) (now (keys .entry))) a kind) (now (place .entry))) ⌝ }
 {
     if r.len() < RECORD {
-        return packing::pack_translation(Translated::Refused(WRONG_LENGTH));
+        return inspections::pack_translation(Translated::Refused(WRONG_LENGTH));
     }
     if r.len() == RECORD {
         match refusals::short_translate_verdict(r, storage, keys, kind) {
             Verdict::Refused(number) => {
-                return packing::pack_translation(Translated::Refused(number));
+                return inspections::pack_translation(Translated::Refused(number));
             }
             Verdict::Accepted => {}
         }
     } else {
         match refusals::translate_verdict(r, storage, keys, kind) {
             Verdict::Refused(number) => {
-                return packing::pack_translation(Translated::Refused(number));
+                return inspections::pack_translation(Translated::Refused(number));
             }
             Verdict::Accepted => {}
         }
@@ -193,9 +194,9 @@ fn table_of_end(storage: &[u8], designation: u32, end: End) -> Sought
     ensures { λ x. ⌜ x ≡ endSought designation (now (storage .entry)) end ⌝ }
 {
     match end {
-        End::Intercepted(_) => sought::nowhere(),
-        End::HostFault(f) => sought::fault_sought(storage, designation, f),
-        End::BudgetUsed => sought::nowhere(),
+        End::Intercepted(_) => faults::nowhere(),
+        End::HostFault(f) => faults::fault_sought(storage, designation, f),
+        End::BudgetUsed => faults::nowhere(),
     }
 }
 
@@ -204,7 +205,7 @@ fn table_of(storage: &[u8], designation: u32, a: Answer) -> Sought
     ensures { λ x. ⌜ x ≡ answerSought designation (now (storage .entry)) a ⌝ }
 {
     match a {
-        Answer::Refused(_) => sought::nowhere(),
+        Answer::Refused(_) => faults::nowhere(),
         Answer::Ended { end, units: _ } => table_of_end(storage, designation, end),
     }
 }
@@ -250,7 +251,7 @@ pub extern "C" fn drevokas_add_page(
 ) -> u64
     ensures { λ x. ⌜ DeskGives (deskOf (Change.Add frame) (now (r .entry)) designation (now (storage .entry)) (now (keys .entry)) page (now (valid .entry))) x (now (storage .exit)) (now (valid .exit)) ⌝ }
 {
-    packing::pack_call(paging::change(
+    replies::pack_call(paging::change(
         r,
         storage,
         keys,
@@ -273,7 +274,7 @@ pub extern "C" fn drevokas_remove_page(
 ) -> u64
     ensures { λ x. ⌜ DeskGives (deskOf Change.Remove (now (r .entry)) designation (now (storage .entry)) (now (keys .entry)) page (now (valid .entry))) x (now (storage .exit)) (now (valid .exit)) ⌝ }
 {
-    packing::pack_call(paging::change(r, storage, keys, Change::Remove, designation, page, valid))
+    replies::pack_call(paging::change(r, storage, keys, Change::Remove, designation, page, valid))
 }
 
 // Protects a guest page: done, code 32, or refused. The number of valid pages stays.
@@ -288,7 +289,7 @@ pub extern "C" fn drevokas_protect_page(
 ) -> u64
     ensures { λ x. ⌜ DeskGives (deskOf Change.Protect (now (r .entry)) designation (now (storage .entry)) (now (keys .entry)) page (now (valid .entry))) x (now (storage .exit)) (now (valid .exit)) ⌝ }
 {
-    packing::pack_call(paging::change(r, storage, keys, Change::Protect, designation, page, valid))
+    replies::pack_call(paging::change(r, storage, keys, Change::Protect, designation, page, valid))
 }
 
 // Lists the frames of the guest's pages, a word each: done with the number of valid pages, code 32, or refused.
@@ -302,7 +303,7 @@ pub extern "C" fn drevokas_list_pages(
 ) -> u64
     ensures { λ x. ⌜ ListGives (listOf (now (r .entry)) designation (now (storage .entry)) (now (keys .entry)) (now (frames .entry))) x (now (frames .exit)) ⌝ }
 {
-    packing::pack_listing(paging::list(r, storage, keys, designation, frames))
+    replies::pack_listing(paging::list(r, storage, keys, designation, frames))
 }
 
 // Finds the lowest guest page from one up to another that is not valid: its number, none, code 32, or refused.
@@ -320,6 +321,6 @@ pub extern "C" fn drevokas_first_unbacked(
         × (now (place .exit) ≡ placeAfterFound (unbackedOf (now (r .entry)) designation (now (storage .entry)) (now (keys .entry)) from to) (now (place .entry))) ⌝ }
 {
     let found = paging::first_unbacked(r, storage, keys, designation, from, to);
-    *place = packing::place_after_found(found, *place);
-    packing::pack_found(found)
+    *place = replies::place_after_found(found, *place);
+    replies::pack_found(found)
 }

@@ -7,14 +7,13 @@ ghost use Rattle.machine.specs.declared.Cpu.{Cpu};
 ghost use Rattle.machine.specs.declared.Guest.{Guest};
 ghost use Rattle.machine.specs.Failures.{segmentTranslation};
 ghost use Rattle.machine.specs.Walk.{pageIndex};
-ghost use Rattle.machine.specs.Host.{host, hostEntry, view};
+ghost use Rattle.machine.specs.Host.{host, view};
 ghost use Rattle.machine.specs.Addresses.{guestEntry};
-ghost use Rattle.machine.specs.Sought.{nowhere, wayOfSegment, hostSoughtBy, hostSought, faultSought, guestSoughtBy, guestSought, sought};
+ghost use Rattle.machine.specs.Sought.{wayOfSegment, guestSoughtBy, guestSought, sought};
 ghost use Rattle.address.specs.Touching.{touchOf};
 ghost use Rattle.address.specs.Locating.{Sees, Fits, failureIn, placeIn};
 ghost use Rattle.sought.specs.Failing.{ReadAs, ExceptsBy, Excepts};
 use address::Space;
-use machine::Failure;
 use machine::Sought;
 use machine::Stage;
 use machine::TableEntry;
@@ -27,83 +26,6 @@ const SEGMENT: u64 = 0x10;
 
 // Numbers from here on say a failure.
 const STOPPED: u64 = 4294967296;
-
-// By no table.
-pub fn nowhere() -> Sought
-    ensures { λ r. ⌜ r ≡ nowhere ⌝ }
-{
-    Sought {
-        stage: Stage::None,
-        entry: 0,
-    }
-}
-
-// An entry of the host's segment table, by its address, or zero where it is not read.
-fn host_segment(entry: u32) -> Sought
-    ensures { λ r. ⌜ r ≡ record { stage = Stage.HostSegment; entry = entry } ⌝ }
-{
-    Sought {
-        stage: Stage::HostSegment,
-        entry,
-    }
-}
-
-// An entry of a page table of the host.
-fn host_page(entry: u32) -> Sought
-    ensures { λ r. ⌜ r ≡ record { stage = Stage.HostPage; entry = entry } ⌝ }
-{
-    Sought {
-        stage: Stage::HostPage,
-        entry,
-    }
-}
-
-// Where the host's walk for a host virtual address ends, by its segment entry, which is read. A page entry that is read is where it
-// ends, whatever its word is.
-fn host_by_segment(storage: &[u8], a: u32, at: u32, word: u32) -> Sought
-    ensures { λ r. ⌜ r ≡ hostSoughtBy (wayOfSegment (hostEntry (now (storage .entry)) a) at (pageIndex a) (TableEntry.Word word)) ⌝ }
-{
-    if word / 32 % 2 == 1 {
-        return host_segment(at);
-    }
-    if word / 2147483648 % 2 == 1 {
-        return host_segment(at);
-    }
-    let index = a / 4096 % 256;
-    if word % 16 < index / 16 {
-        return host_page(0);
-    }
-    let page = word / 64 % 33554432 * 64 + index * 4;
-    if page as usize + 4 <= storage.len() {
-        return host_page(page);
-    }
-    host_page(0)
-}
-
-// Where the host's walk for a host virtual address ends.
-pub fn host_sought(storage: &[u8], designation: u32, a: u32) -> Sought
-    ensures { λ r. ⌜ r ≡ hostSought designation (now (storage .entry)) a ⌝ }
-{
-    let segment = a / 1048576;
-    if designation % 128 < segment / 16 {
-        return host_segment(0);
-    }
-    let at = designation / 4096 % 524288 * 4096 + segment * 4;
-    if at as usize + 4 <= storage.len() {
-        return host_by_segment(storage, a, at, words::word_at(storage, at as usize));
-    }
-    host_segment(0)
-}
-
-// By which table a host fault is.
-pub fn fault_sought(storage: &[u8], designation: u32, f: Failure) -> Sought
-    ensures { λ r. ⌜ r ≡ faultSought designation (now (storage .entry)) f ⌝ }
-{
-    if f.code as u64 == PROTECTION {
-        return nowhere();
-    }
-    host_sought(storage, designation, f.address)
-}
 
 // An entry of the guest's segment table, by its address, or zero where it is not read.
 fn guest_segment(entry: u32) -> Sought
@@ -164,7 +86,7 @@ fn guest_by_segment(space: Space, a: u32, code: u64, at: u32, word: u32) -> Soug
     if address::virtual_of(space, next) >= STOPPED {
         return guest_page(0);
     }
-    nowhere()
+    faults::nowhere()
 }
 
 // Where the guest's walk for a logical address ends, where that is in an exception with this code, by which less need be read.
@@ -174,10 +96,10 @@ fn guest_sought(storage: &[u8], space: Space, a: u32, code: u64) -> Sought
         → r ≡ guestSought g (view g (host (space .designation) (now (storage .entry)) k)) c a) ⌝ }
 {
     if !address::dat_on(space.left) {
-        return nowhere();
+        return faults::nowhere();
     }
     if space.cr0 / 524288 % 32 != 22 {
-        return nowhere();
+        return faults::nowhere();
     }
     let index = a / 1048576;
     if space.cr1 % 128 < index / 16 {
@@ -203,10 +125,10 @@ pub fn sought(storage: &[u8], space: Space, a: u32, w: u64) -> Sought
 {
     let code = w / 8589934592;
     if code == PROTECTION {
-        return nowhere();
+        return faults::nowhere();
     }
     if w / STOPPED % 2 == 1 {
-        return host_sought(storage, space.designation, (w % STOPPED) as u32);
+        return faults::host_sought(storage, space.designation, (w % STOPPED) as u32);
     }
     guest_sought(storage, space, a, code)
 }

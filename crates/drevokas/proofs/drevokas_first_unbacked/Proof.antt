@@ -2,7 +2,7 @@
 -- Assumes nothing.
 use mathlib.Core.Path.{ap, _∙_}
 use borrow.Author.Needs.{needs}
-use Rattle.packing.specs.Packing.{packedFound, placeAfterFound}
+use Rattle.replies.specs.Replying.{packedFound, placeAfterFound}
 use Rattle.drevokas.proofs.drevokas_first_unbacked.Statement.{statement}
 use Rattle.drevokas.proofs.drevokas_first_unbacked.Tie as tie
 

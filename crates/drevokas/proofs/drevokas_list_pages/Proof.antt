@@ -2,7 +2,7 @@
 -- Assumes nothing.
 use mathlib.Core.Path.{ap, _∙_}
 use borrow.Author.Needs.{needs}
-use Rattle.packing.specs.Packing.{packedListing}
+use Rattle.replies.specs.Replying.{packedListing}
 use Rattle.drevokas.proofs.drevokas_list_pages.Statement.{statement}
 use Rattle.drevokas.proofs.drevokas_list_pages.Tie as tie
 

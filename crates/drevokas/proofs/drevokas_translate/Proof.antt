@@ -5,7 +5,7 @@ use mathlib.Core.Path.{sym, _∙_}
 use mathlib.Core.Logic.{⊎-elim}
 use Rattle.machine.specs.Host.{host}
 use Rattle.machine.specs.Operations.{translatedAs}
-use Rattle.packing.specs.Packing.{placeAfter}
+use Rattle.inspections.specs.Inspecting.{placeAfter}
 use Rattle.inspect.proofs.Accepting.{too-short, translate-by}
 use Rattle.drevokas.proofs.drevokas_translate.Statement.{statement}
 use Rattle.drevokas.proofs.drevokas_translate.Tie as tie

@@ -12,7 +12,7 @@ use Rattle.machine.specs.Host.{host, view}
 use Rattle.machine.specs.Addresses.{guestEntry}
 use Rattle.machine.specs.Sought.{wayOfPage, wayOfSegment, guestSoughtBy}
 use Rattle.machine.proofs.Tests.{tests}
-use Rattle.sought.proofs.Ways.{segment-onward}
+use Rattle.faults.proofs.Ways.{segment-onward}
 use Rattle.sought.specs.Failing.{ExceptsBy}
 use Rattle.address.proofs.Located.{sees-bound, inside-extent, outside-extent}
 use Rattle.sought.proofs.Failing.{page-by-code, page-clear, valid-by-code, entry-past, entry-excepts}

@@ -1,0 +1,65 @@
+-- `replies::pack_found` meets its contract.
+-- Assumes nothing.
+use borrow.Author.Needs.{needs}
+use Rattle.machine.specs.Answers.{reasonCode}
+use Rattle.machine.proofs.Tests.{tests}
+use Rattle.replies.specs.Replying.{packedFound}
+use Rattle.replies.proofs.pack_found.Statement.{statement}
+use Rattle.replies.proofs.pack_found.Tie as tie
+
+enum-known-x : tie.Need-enum-known-x
+enum-known-x c = search needs
+
+pack-requires : tie.Need-pack-requires
+pack-requires c κs = search needs
+
+enum-told : tie.Need-enum-told
+enum-told c = search needs
+
+pack-requires-2 : tie.Need-pack-requires-2
+pack-requires-2 c κs = search needs
+
+enum-told-2 : tie.Need-enum-told-2
+enum-told-2 c = search needs
+
+pack-requires-3 : tie.Need-pack-requires-3
+pack-requires-3 c κs = search needs
+
+enum-told-3 : tie.Need-enum-told-3
+enum-told-3 c = search needs
+
+pack-requires-4 : tie.Need-pack-requires-4
+pack-requires-4 c κs = search needs
+
+returns : tie.Need-returns
+unfolding packedFound
+returns c = search (tests, c .before .before .x .given .1)
+
+returns-2 : tie.Need-returns-2
+unfolding packedFound reasonCode
+returns-2 c = search (tests, c .before .enum-told .given .1)
+
+returns-3 : tie.Need-returns-3
+unfolding packedFound
+returns-3 c = search (tests, c .before .enum-told2 .given .1)
+
+returns-4 : tie.Need-returns-4
+unfolding packedFound
+returns-4 c = search (tests, c .before .enum-told3 .given .1)
+
+pub pack-found-spec : {M : Type 1} → statement M
+pack-found-spec =
+    tie.close
+    (tie.spec
+    enum-known-x
+    pack-requires
+    enum-told
+    pack-requires-2
+    enum-told-2
+    pack-requires-3
+    enum-told-3
+    pack-requires-4
+    returns
+    returns-2
+    returns-3
+    returns-4)
