@@ -23,10 +23,11 @@ use Rattle.laws.proofs.Pages.{prefixed-keeps-offset, backing-in-storage}
 use Rattle.storage.specs.Steps.{inside}
 use Rattle.storage.specs.Found.{pageFound}
 use Rattle.storage.proofs.Found.{found-page, found-stopped}
+use Rattle.prefixing.specs.declared.Space.{Space}
+use Rattle.prefixing.specs.Prefixing.{Sees, Fits, exceptionNumber, virtualIn}
 use Rattle.address.specs.declared.Place.the-variants.{At, Denied}
-use Rattle.address.specs.declared.Space.{Space}
 use Rattle.address.specs.Touching.{entryBehind}
-use Rattle.address.specs.Locating.{Sees, Fits, exceptionNumber, faultNumber, failureIn, virtualIn, entryIn, pageIn, placeIn}
+use Rattle.address.specs.Locating.{faultNumber, failureIn, entryIn, pageIn, placeIn}
 use Rattle.address.proofs.Touches.{guest-entry-behind}
 
 -- a word whose bit 0 is zero has 31 bits

@@ -1,19 +1,16 @@
 -- Addressing looks at the PSW and the control registers alone.
 -- Assumes nothing.
-use Prim.Native.Nat.{ℕ, _+_}
+use Prim.Native.Nat.{ℕ}
 use mathlib.Core.Path.{_≡_, refl, ap}
 use mathlib.Core.Bool.{Bool, cond, _&&_}
-use lib.Dec.{leb}
 use Rattle.machine.specs.declared.Cpu.{Cpu}
 use Rattle.machine.specs.declared.Guest.{Guest}
 use Rattle.machine.specs.declared.Walk.{Walk}
 use Rattle.machine.specs.declared.Walk.the-variants.{Page, Failed}
-use Rattle.machine.specs.Psw.{wrap}
 use Rattle.machine.specs.Failures.{protection, exceptionOf}
-use Rattle.machine.specs.Host.{Host, Cell, view}
+use Rattle.machine.specs.Host.{Cell}
 use Rattle.machine.specs.Addresses.{denied, formatGood, realPage, keyProtects, inPage, lowProtected, access}
-use Rattle.address.specs.Touching.{seen, touchedBy}
-use Rattle.address.specs.Operands.{inOnePage, inTwoPages, toPageEnd, operandOf}
+use Rattle.address.specs.Touching.{seen}
 
 pub access-seen : (g : Guest) (v : ℕ → Cell) (c : Cpu) (store : Bool) (a : ℕ) → access g v c store a ≡ access g v (seen (c .psw) (c .control)) store a
 unfolding access realPage formatGood inPage keyProtects lowProtected
@@ -23,12 +20,3 @@ access-seen g v c store a =
     in-page : (w : Walk) → inPage g v c store a w ≡ inPage g v (seen (c .psw) (c .control)) store a w
     in-page (Failed f) = refl
     in-page (Page frame protected) = refl
-
-pub operand-seen : (g : Guest) (h : Host) (c : Cpu) (store : Bool) (a n : ℕ)
-    → operandOf g h c store a n ≡ operandOf g h (seen (c .psw) (c .control)) store a n
-unfolding operandOf wrap
-operand-seen g h c store a n =
-    λ i.
-    cond (leb n (toPageEnd a)) (inOnePage n (touchedBy g h (access-seen g (view g h) c store a i)))
-    (inTwoPages (toPageEnd a) (touchedBy g h (access-seen g (view g h) c store a i))
-    (touchedBy g h (access-seen g (view g h) c store (wrap c (a + toPageEnd a)) i)))

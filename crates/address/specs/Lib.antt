@@ -1,3 +1,2 @@
 pub mod Touching
-pub mod Operands
 pub mod Locating

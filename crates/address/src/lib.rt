@@ -1,4 +1,4 @@
-// The guest's side of an address: prefixing, guest tables, protection, and where a byte or an operand stands in host storage.
+// The guest's side of an address: guest tables, protection, and where a byte stands in host storage.
 // Each contract equates with machine's Addresses.
 ghost use mathlib.Core.Path.{_≡_};
 ghost use mathlib.Core.Bool.{cond, _&&_};
@@ -9,22 +9,23 @@ ghost use Rattle.machine.specs.declared.Cpu.{Cpu};
 ghost use Rattle.machine.specs.Words.{bits, bit, wordAt};
 ghost use Rattle.machine.specs.Refusals.{framesOf};
 ghost use Rattle.machine.specs.Failures.{isTranslation, exceptionOf, walkException};
-ghost use Rattle.machine.specs.Psw.{datOn, accessKey, wrap, control};
+ghost use Rattle.machine.specs.Psw.{accessKey, wrap, control};
 ghost use Rattle.machine.specs.Walk.{pageIndex, frameOf, pageProtected, walkPage};
 ghost use Rattle.machine.specs.Host.{host, hostVirtual, inFrame, view};
-ghost use Rattle.machine.specs.Addresses.{prefixed, guestEntry, realPage, lowProtected};
+ghost use Rattle.machine.specs.Addresses.{guestEntry, realPage, lowProtected};
 ghost use Rattle.storage.specs.Entered.{Entered};
 ghost use Rattle.storage.specs.Steps.{readThrough, tableLeads, segmentLeads, inside};
 ghost use Rattle.storage.specs.Found.{Serves};
+ghost use Rattle.prefixing.specs.Prefixing.{Sees, Fits};
 ghost use Rattle.address.specs.Touching.{seen, settled, guestProtects, touched, touchOf};
-ghost use Rattle.address.specs.Operands.{inOnePage, inTwoPages, operandOf};
-ghost use Rattle.address.specs.Locating.{Sees, Fits, exceptionNumber, faultNumber, failureIn, virtualIn, entryIn, pageIn, placeIn};
+ghost use Rattle.address.specs.Locating.{faultNumber, failureIn, entryIn, pageIn, placeIn};
 use machine::Failure;
 use machine::Guest;
 use machine::Psw;
 use machine::Registers;
 use machine::TableEntry;
 use machine::Walk;
+use prefixing::Space;
 use storage::Segment;
 
 // Where a byte stands in host storage, or why it cannot be reached.
@@ -34,8 +35,6 @@ pub enum Place {
 }
 
 const PROTECTION: u64 = 4;
-
-const ADDRESSING: u64 = 5;
 
 const SEGMENT: u64 = 0x10;
 
@@ -56,53 +55,6 @@ fn both(x: bool, y: bool) -> bool
     false
 }
 
-// What addressing looks at: the guest's origin, extent and prefix in bytes, the PSW's left word as addressing looks at it, control
-// registers 0 and 1, and the host's designation.
-pub struct Space {
-    pub origin: u32,
-    pub extent: u32,
-    pub prefix: u32,
-    pub left: u32,
-    pub cr0: u32,
-    pub cr1: u32,
-    pub designation: u32,
-}
-
-// The PSW's left word as addressing looks at it: its access key, and bit 5 as DAT. A BC PSW has none: its bit 5 is a channel's mask.
-fn addressing_left(psw: Psw) -> u32
-    ensures { λ r. ⌜ ((c : Cpu) → psw ≡ c .psw → (bit 32 5 r ≡ datOn c) × (bits 32 8 11 r ≡ accessKey c)) ⌝ }
-{
-    if psw.system370 {
-        if psw.left / 524288 % 2 != 1 {
-            return psw.left / 134217728 * 134217728 + psw.left % 67108864;
-        }
-    }
-    psw.left
-}
-
-pub fn space_of(guest: Guest, psw: Psw, cr0: u32, cr1: u32, designation: u32) -> Space
-    requires { ⌜ Entered guest ⌝ }
-    ensures { λ r. ⌜ Fits r × (r .designation ≡ designation) × ((c : Cpu) → psw ≡ c .psw → cr0 ≡ control c 0 → cr1 ≡ control c 1 → Sees r guest c) ⌝ }
-{
-    Space {
-        origin: guest.origin as u32 * 65536,
-        extent: guest.extent as u32 * 65536,
-        prefix: guest.prefix * 4096,
-        left: addressing_left(psw),
-        cr0,
-        cr1,
-        designation,
-    }
-}
-
-// A guest program exception as a number.
-fn excepted(code: u64) -> u64
-    requires { ⌜ code < 32 ⌝ }
-    ensures { λ r. ⌜ r ≡ exceptionNumber code ⌝ }
-{
-    code * 8589934592
-}
-
 // A host fault of a host virtual address as a number.
 fn faulted(code: u64, v: u32) -> u64
     requires { ⌜ code < 32 ⌝ }
@@ -111,32 +63,12 @@ fn faulted(code: u64, v: u32) -> u64
     (code * 2 + 1) * STOPPED + v as u64
 }
 
-// The host virtual address of a guest real one, or addressing. Both blocks that prefixing exchanges lie below the extent.
-pub fn virtual_of(space: Space, real: u32) -> u64
-    requires { ⌜ Fits space ⌝ }
-    ensures { λ r. ⌜ ((g : Guest) (c : Cpu) → Sees space g c → r ≡ virtualIn g (prefixed g real)) ⌝ }
-{
-    let origin = space.origin as u64;
-    let absolute = real as u64;
-    let at = origin + absolute;
-    if real / 4096 == 0 {
-        return at + space.prefix as u64;
-    }
-    if real / 4096 * 4096 == space.prefix {
-        return origin + absolute % 4096;
-    }
-    if absolute < space.extent as u64 {
-        return at;
-    }
-    excepted(ADDRESSING)
-}
-
 // Where the guest's segment entry of a logical address stands, by CR1.
 pub fn by_table(cr1: u32, a: u32) -> u64
     ensures { λ r. ⌜ tableLeads (walkException a) cr1 a ≡ entryIn a r ⌝ }
 {
     if cr1 % 128 < a / 1048576 / 16 {
-        return excepted(SEGMENT);
+        return prefixing::excepted(SEGMENT);
     }
     (cr1 / 4096 % 524288 * 4096 + a / 1048576 * 4) as u64
 }
@@ -146,14 +78,14 @@ pub fn by_segment(a: u32, word: u32) -> u64
     ensures { λ r. ⌜ segmentLeads (walkException a) (pageIndex a) (TableEntry.Word word) ≡ entryIn a r ⌝ }
 {
     if word / 32 % 2 == 1 {
-        return excepted(SEGMENT);
+        return prefixing::excepted(SEGMENT);
     }
     if word / 2147483648 % 2 == 1 {
-        return excepted(SPECIFICATION);
+        return prefixing::excepted(SPECIFICATION);
     }
     let index = a / 4096 % 256;
     if word % 16 < index / 16 {
-        return excepted(PAGE);
+        return prefixing::excepted(PAGE);
     }
     (word / 64 % 33554432 * 64 + index * 4) as u64
 }
@@ -163,16 +95,16 @@ pub fn by_page(word: u32) -> u64
     ensures { λ r. ⌜ ((a : ℕ) → walkPage (walkException a) (TableEntry.Word word) ≡ pageIn a r) ⌝ }
 {
     if word / 1024 % 2 == 1 {
-        return excepted(PAGE);
+        return prefixing::excepted(PAGE);
     }
     if word / 2147483648 % 2 == 1 {
-        return excepted(SPECIFICATION);
+        return prefixing::excepted(SPECIFICATION);
     }
     if word / 2048 % 2 == 1 {
-        return excepted(SPECIFICATION);
+        return prefixing::excepted(SPECIFICATION);
     }
     if word / 256 % 2 == 1 {
-        return excepted(SPECIFICATION);
+        return prefixing::excepted(SPECIFICATION);
     }
     word as u64
 }
@@ -207,7 +139,7 @@ fn from_page_entry(storage: &[u8], designation: u32, space: Space, real: u32, ke
     ensures { λ r. ⌜ ((g : Guest) (c : Cpu) → Sees space g c → (k : List ℕ) (a : ℕ)
         → walkPage (walkException a) (guestEntry g (view g (host designation (now (storage .entry)) k)) real) ≡ pageIn a (r .page)) ⌝ }
 {
-    let at = virtual_of(space, real);
+    let at = prefixing::virtual_of(space, real);
     if at >= STOPPED {
         return without_segment(at);
     }
@@ -231,7 +163,7 @@ fn from_segment_entry(storage: &[u8], designation: u32, space: Space, a: u32, re
         → walkPage (walkException a) (readThrough (guestEntry g (view g (host designation (now (storage .entry)) k)))
         (segmentLeads (walkException a) (pageIndex a) (guestEntry g (view g (host designation (now (storage .entry)) k)) real))) ≡ pageIn a (r .page)) ⌝ }
 {
-    let at = virtual_of(space, real);
+    let at = prefixing::virtual_of(space, real);
     if at >= STOPPED {
         return without_segment(at);
     }
@@ -266,7 +198,7 @@ fn real_page(storage: &[u8], designation: u32, space: Space, a: u32) -> Real
         return without_segment((a / 4096 * 4096) as u64);
     }
     if space.cr0 / 524288 % 32 != 22 {
-        return without_segment(excepted(SPECIFICATION));
+        return without_segment(prefixing::excepted(SPECIFICATION));
     }
     let real = by_table(space.cr1, a);
     if real >= STOPPED {
@@ -310,7 +242,7 @@ fn settle(keys: &[u8], left: u32, store: bool, protected: bool, v: u32, page: u6
 {
     let frame = (page / 4096 % 524288) as u32;
     if guest_protects(left, store, protected, keys[frame as usize]) {
-        return excepted(PROTECTION);
+        return prefixing::excepted(PROTECTION);
     }
     if both(store, page / 512 % 2 == 1) {
         return faulted(PROTECTION, v);
@@ -336,7 +268,7 @@ fn in_page(
     if entry >= STOPPED {
         return entry;
     }
-    let at = virtual_of(space, entry as u32 / 4096 * 4096 + a % 4096);
+    let at = prefixing::virtual_of(space, entry as u32 / 4096 * 4096 + a % 4096);
     if at >= STOPPED {
         return at;
     }
@@ -357,7 +289,7 @@ pub fn locate(storage: &[u8], keys: &[u8], space: Space, store: bool, a: u32) ->
 {
     let designation = space.designation;
     if both(store, low_protected(space.cr0, a)) {
-        return excepted(PROTECTION);
+        return prefixing::excepted(PROTECTION);
     }
     let real = real_page(storage, designation, space, a);
     in_page(storage, keys, designation, space, store, a, real)
@@ -432,68 +364,8 @@ pub fn touch(
 {
     let cr0 = control.words[0];
     let cr1 = control.words[1];
-    let space = space_of(guest, psw, cr0, cr1, designation);
+    let space = prefixing::space_of(guest, psw, cr0, cr1, designation);
     place_of(a, locate(storage, keys, space, store, a))
-}
-
-// Where an operand stands in host storage: count bytes from first on, and the others from second on; or why it cannot be reached.
-pub enum Operand {
-    Open { first: u32, count: u32, second: u32 },
-    Shut(Failure),
-}
-
-// An operand of one page, by its first byte.
-pub fn one_page(n: u32, x: Place) -> Operand
-    ensures { λ r. ⌜ r ≡ inOnePage n x ⌝ }
-{
-    match x {
-        Place::At(first) => Operand::Open {
-            first,
-            count: n,
-            second: 0,
-        },
-        Place::Denied(f) => Operand::Shut(f),
-    }
-}
-
-// An operand of two pages whose first byte is reached, by the second page's first byte.
-fn second_page(m: u32, first: u32, y: Place) -> Operand
-    ensures { λ r. ⌜ r ≡ inTwoPages m (Place.At first) y ⌝ }
-{
-    match y {
-        Place::At(second) => Operand::Open {
-            first,
-            count: m,
-            second,
-        },
-        Place::Denied(f) => Operand::Shut(f),
-    }
-}
-
-// An operand of two pages, by its first byte: the second page is touched, at its start, where the first page was reached.
-fn two_pages(
-    storage: &[u8],
-    keys: &[u8],
-    designation: u32,
-    guest: Guest,
-    psw: Psw,
-    control: Registers,
-    store: bool,
-    next: u32,
-    m: u32,
-    x: Place,
-) -> Operand
-    requires { ⌜ Entered guest × (framesOf (now storage) ≤ length (now keys)) ⌝ }
-    ensures { λ r. ⌜ r ≡ inTwoPages m x (touchOf guest (host designation (now (storage .entry)) (now (keys .entry))) (seen psw control) store next) ⌝ }
-{
-    match x {
-        Place::At(first) => second_page(
-            m,
-            first,
-            touch(storage, keys, designation, guest, psw, control, store, next),
-        ),
-        Place::Denied(f) => Operand::Shut(f),
-    }
 }
 
 // A logical address, wrapped by PSW bit 32, at 24 bits in a System/370 PSW, whatever the control registers are.
@@ -507,38 +379,4 @@ pub fn wrapped(psw: Psw, a: u32) -> u32
         return a % 16777216;
     }
     a % 2147483648
-}
-
-// Where the operand of n bytes at a wrapped logical address stands in host storage, or why it cannot be reached.
-pub fn find_operand(
-    storage: &[u8],
-    keys: &[u8],
-    designation: u32,
-    guest: Guest,
-    psw: Psw,
-    control: Registers,
-    store: bool,
-    a: u32,
-    n: u32,
-) -> Operand
-    requires { ⌜ Entered guest × (framesOf (now storage) ≤ length (now keys)) × (a < 2147483648) ⌝ }
-    ensures { λ r. ⌜ r ≡ operandOf guest (host designation (now (storage .entry)) (now (keys .entry))) (seen psw control) store a n ⌝ }
-{
-    let m = 4096 - a % 4096;
-    let first = touch(storage, keys, designation, guest, psw, control, store, a);
-    if n <= m {
-        return one_page(n, first);
-    }
-    two_pages(
-        storage,
-        keys,
-        designation,
-        guest,
-        psw,
-        control,
-        store,
-        wrapped(psw, a + m),
-        m,
-        first,
-    )
 }

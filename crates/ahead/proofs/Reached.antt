@@ -12,10 +12,10 @@ use Rattle.machine.specs.Host.{Host, view}
 use Rattle.machine.specs.Addresses.{access, accesses, span}
 use Rattle.machine.specs.Outcomes.{Progress}
 use Rattle.laws.proofs.PageBytes.{wrap-by-mode}
-use Rattle.address.specs.declared.Operand.{Operand}
-use Rattle.address.specs.declared.Operand.the-variants.{Open, Shut}
-use Rattle.address.specs.Operands.{operandOf}
-use Rattle.address.proofs.Operands.{operand-shut, operand-open}
+use Rattle.operands.specs.declared.Operand.{Operand}
+use Rattle.operands.specs.declared.Operand.the-variants.{Open, Shut}
+use Rattle.operands.specs.Operands.{operandOf}
+use Rattle.operands.proofs.Operands.{operand-shut, operand-open}
 use Rattle.ahead.specs.Completing.{allReached, reaches, isOpen, InHand}
 
 pub open-reached : (g : Guest) (h : Host) (c : Cpu) (store : Bool) (a n : ℕ) → wrap c a ≡ a → 1 ≤ n → n ≤ 4096

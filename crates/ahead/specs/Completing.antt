@@ -14,8 +14,8 @@ use Rattle.machine.specs.Host.{Host, view}
 use Rattle.machine.specs.Addresses.{Accesses, all, stopped, realAccess, access, accesses, span, upFrom}
 use Rattle.machine.specs.Outcomes.{Outcome, completed, intercepted, faulted, Progress}
 use Rattle.machine.specs.Execute.{r1, r2, operandAddress, indexedAddress, sumOverflows, differenceOverflows, rangeCount}
-use Rattle.address.specs.declared.Operand.{Operand}
-use Rattle.address.specs.declared.Operand.the-variants.{Open, Shut}
+use Rattle.operands.specs.declared.Operand.{Operand}
+use Rattle.operands.specs.declared.Operand.the-variants.{Open, Shut}
 
 -- the outcome completes a unit
 unfoldable pub isComplete : Outcome → Bool

@@ -13,12 +13,12 @@ ghost use Rattle.machine.specs.Outcomes.{Progress};
 ghost use Rattle.machine.specs.Execute.{operandAddress, indexedAddress};
 ghost use Rattle.storage.specs.Entered.{Entered};
 ghost use Rattle.ahead.specs.Completing.{allReached, reaches, performs, isOpen, InHand};
-use address::Operand;
 use machine::Class;
 use machine::Cpu;
 use machine::Guest;
 use machine::Psw;
 use machine::Text;
+use operands::Operand;
 
 // All bytes of the operand are reached.
 fn opens(operand: Operand) -> bool
@@ -51,7 +51,7 @@ fn reaches(
 {
     let psw = cpu.psw;
     let control = cpu.control;
-    let operand = address::find_operand(
+    let operand = operands::find_operand(
         storage,
         keys,
         designation,

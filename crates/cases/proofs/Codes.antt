@@ -28,7 +28,7 @@ use Rattle.machine.specs.Record.{guestOf, residueOf}
 use Rattle.machine.specs.Interval.{active, falls}
 use Rattle.machine.specs.Run.{Machine, goes, ends, counted, onward, unitFrom, afterUnit, wordAccesses, risenTo, fallenTo, ticked, stepOf, step, run}
 use Rattle.machine.proofs.Tests.{on-either-arm}
-use Rattle.address.proofs.Codes.{Coded, CodedCell, CodedAccess, coded-view, coded-real-access, coded-access}
+use Rattle.laws.proofs.Codes.{Coded, CodedCell, CodedAccess, coded-view, coded-real-access, coded-access}
 
 abbrev CodedAccesses : Accesses → Type 0
 CodedAccesses (all ls) = Unit {0}

@@ -34,7 +34,7 @@ use Rattle.machine.proofs.Words.{sets-words-same}
 use Rattle.machine.proofs.Entry.{entry-version}
 use Rattle.machine.proofs.Verdicts.{accepted-test, keys-of-right, accepted-length, accepted-version, accepted-residue}
 use Rattle.laws.proofs.Lens.{withCpu-cpuOf}
-use Rattle.refusals.proofs.Parts.{long-record}
+use Rattle.entry.proofs.Parts.{long-record}
 use Rattle.streaks.specs.Remaining.{plainAt, recordAt, machineAt, OfGuest}
 use Rattle.run.specs.declared.Ended.{Ended}
 use Rattle.run.specs.Running.{Ends}

@@ -55,7 +55,7 @@ fn translate_accepted(
     ensures { λ x. ⌜ (x ≡ packedTranslation (translate (now (r .entry)) (host designation (now (storage .entry)) (now (keys .entry))) a kind))
         × (now (place .exit) ≡ placeAfter (translate (now (r .entry)) (host designation (now (storage .entry)) (now (keys .entry))) a kind) (now (place .entry))) ⌝ }
 {
-    if refusals::xa_mode(r[4]) {
+    if entry::xa_mode(r[4]) {
         let t = inspect::translate_xa(r, storage, keys, designation, a, kind);
         *place = inspections::place_after(t, *place);
         return inspections::pack_translation(t);
@@ -170,7 +170,7 @@ fn run_accepted(r: &mut [u8], storage: &mut [u8], keys: &mut [u8], n: Numbers) -
     ensures { λ x. ⌜ Gives (runAs n (now (r .entry)) (now (storage .entry)) (now (keys .entry)) Verdict.Accepted) x (now (r .exit)) (now (storage .exit)) (now (keys .exit)) ⌝ }
 {
     let guest = records::guest_of(r);
-    if !refusals::entry_good(guest, r.len() == LONG_RECORD) {
+    if !entry::entry_good(guest, r.len() == LONG_RECORD) {
         let end = End::Intercepted(Reason::Validity);
         records::put_results(r, end);
         return Answer::Ended { end, units: 0 };

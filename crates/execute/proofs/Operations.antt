@@ -16,9 +16,10 @@ use Rattle.machine.specs.Interruptions.{exception}
 use Rattle.machine.specs.Execute.{finish, fetching, storing}
 use Rattle.machine.specs.Run.{markedBy}
 use Rattle.laws.proofs.PageBytes.{marked-append, referenced-twice, changed-twice}
-use Rattle.address.specs.declared.Operand.the-variants.{Open, Shut}
-use Rattle.address.specs.Operands.{operandOf, markOperand}
-use Rattle.address.proofs.Operands.{operand-shut, operand-open}
+use Rattle.writer.specs.Marks.{markOperand}
+use Rattle.operands.specs.declared.Operand.the-variants.{Open, Shut}
+use Rattle.operands.specs.Operands.{operandOf}
+use Rattle.operands.proofs.Operands.{operand-shut, operand-open}
 use Rattle.interruptions.specs.After.{eventOf, cpuAfter, storageAfter, keysAfter, Completes}
 use Rattle.interruptions.proofs.Areas.{places-withBytes}
 

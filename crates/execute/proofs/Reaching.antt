@@ -18,11 +18,12 @@ use Rattle.machine.specs.Outcomes.{Progress}
 use Rattle.machine.specs.Interruptions.{exception}
 use Rattle.machine.specs.Execute.{finish, fetching, storing}
 use Rattle.laws.proofs.PageBytes.{wrap-by-mode}
-use Rattle.address.specs.declared.Operand.{Operand}
-use Rattle.address.specs.declared.Operand.the-variants.{Open, Shut}
-use Rattle.address.specs.Operands.{operandOf, markOperand}
-use Rattle.address.proofs.Operands.{operand-open}
-use Rattle.address.proofs.Reached.{operand-code, operand-keys}
+use Rattle.writer.specs.Marks.{markOperand}
+use Rattle.operands.specs.declared.Operand.{Operand}
+use Rattle.operands.specs.declared.Operand.the-variants.{Open, Shut}
+use Rattle.operands.specs.Operands.{operandOf}
+use Rattle.operands.proofs.Operands.{operand-open}
+use Rattle.operands.proofs.Reached.{operand-code, operand-keys}
 use Rattle.interruptions.specs.declared.Done.{Done}
 use Rattle.interruptions.specs.declared.Event.the-variants as event
 use Rattle.interruptions.specs.declared.Frames.{Frames}

@@ -12,9 +12,9 @@ use Rattle.machine.specs.Host.{Host, referenced, changed}
 use Rattle.machine.specs.Outcomes.{Outcome, Progress}
 use Rattle.machine.specs.Interruptions.{exception}
 use Rattle.storage.specs.Entered.{Entered}
-use Rattle.address.specs.declared.Operand.{Operand}
-use Rattle.address.specs.declared.Operand.the-variants.{Open, Shut}
-use Rattle.address.specs.Operands.{markOperand}
+use Rattle.writer.specs.Marks.{markOperand}
+use Rattle.operands.specs.declared.Operand.{Operand}
+use Rattle.operands.specs.declared.Operand.the-variants.{Open, Shut}
 use Rattle.interruptions.specs.declared.Done.{Done}
 use Rattle.interruptions.specs.declared.Frames.{Frames}
 use Rattle.interruptions.specs.After.{WithKeys, Standing, Left, markText}

@@ -12,10 +12,9 @@ ghost use Rattle.machine.specs.Host.{host};
 ghost use Rattle.machine.specs.Outcomes.{Progress};
 ghost use Rattle.machine.specs.Interruptions.{programAreas, programFields, afterException, exception};
 ghost use Rattle.storage.specs.Entered.{Entered};
-ghost use Rattle.address.specs.Operands.{operandOf};
+ghost use Rattle.operands.specs.Operands.{operandOf};
 ghost use Rattle.interruptions.specs.After.{WithKeys, leftBy, Before, Standing, Left, areasOf, ilcOf, codeOf, fieldsOf, InPrefixPage};
 ghost use Rattle.execute.specs.Reaching.{Ready, InReach, Reaches, Within, Does, markAll};
-use address::Operand;
 use interruptions::Done;
 use interruptions::Event;
 use interruptions::Frames;
@@ -26,6 +25,7 @@ use machine::Guest;
 use machine::Psw;
 use machine::Reason;
 use machine::Text;
+use operands::Operand;
 
 // An operand that an instruction has reached: where its bytes stand, as in address's Operand; or how the unit ended.
 pub struct Reached {
@@ -244,7 +244,7 @@ fn operand_of(
 {
     let psw = cpu.psw;
     let control = cpu.control;
-    address::find_operand(storage, keys, designation, guest, psw, control, store, a, n)
+    operands::find_operand(storage, keys, designation, guest, psw, control, store, a, n)
 }
 
 // Reaches the operand of n bytes at a wrapped logical address: every access is known good before anything is stored or marked.

@@ -29,8 +29,8 @@ use Rattle.machine.specs.Operations.{translates, addressIn, translatedTo, trans
 use Rattle.machine.proofs.Laws.{good-length}
 use Rattle.machine.proofs.WhichTable.{reached-goes}
 use Rattle.machine.proofs.Verdicts.{accepted-test, length-of-right, keys-of-right}
-use Rattle.refusals.specs.Parts.{xaMode}
-use Rattle.refusals.proofs.Parts.{entry-xa, xa-mode, long-record}
+use Rattle.entry.specs.Modes.{xaMode}
+use Rattle.entry.proofs.Parts.{entry-xa, xa-mode, long-record}
 use Rattle.address.specs.Touching.{seen, placed, touchedBy, touchOf}
 use Rattle.inspect.specs.Answering.{answered}
 

@@ -10,15 +10,16 @@ ghost use Rattle.machine.specs.Host.{host};
 ghost use Rattle.machine.specs.declared.Cpu.{Cpu};
 ghost use Rattle.machine.specs.declared.Guest.{Guest};
 ghost use Rattle.machine.specs.Operations.{checkedAs, check, translates, translatedAs};
-ghost use Rattle.refusals.specs.Parts.{xaMode};
+ghost use Rattle.entry.specs.Modes.{xaMode};
+ghost use Rattle.prefixing.specs.Prefixing.{Sees, Fits};
 ghost use Rattle.address.specs.Touching.{touchOf};
-ghost use Rattle.address.specs.Locating.{Sees, Fits, placeIn};
+ghost use Rattle.address.specs.Locating.{placeIn};
 ghost use Rattle.inspect.specs.Answering.{answered};
-use address::Space;
 use machine::Checked;
 use machine::Psw;
 use machine::Translated;
 use machine::Verdict;
+use prefixing::Space;
 
 const STORE: u32 = 1;
 
@@ -35,7 +36,7 @@ fn checked_as(r: &[u8], v: Verdict) -> Checked
     match v {
         Verdict::Refused(number) => Checked::Refused(number),
         Verdict::Accepted => {
-            if refusals::entry_good(records::guest_of(r), r.len() == LONG_RECORD) {
+            if entry::entry_good(records::guest_of(r), r.len() == LONG_RECORD) {
                 Checked::Good
             } else {
                 Checked::Validity
@@ -90,14 +91,14 @@ pub fn translate_xa(
     ensures { λ t. ⌜ t ≡ translatedAs (now (r .entry)) (host designation (now (storage .entry)) (now (keys .entry))) a kind Verdict.Accepted ⌝ }
 {
     let guest = records::guest_of(r);
-    if !refusals::place_good(guest) {
+    if !entry::place_good(guest) {
         return Translated::Validity;
     }
     let psw = records::psw_of(r);
     let control = records::table_controls(r);
     let cr0 = control.words[0];
     let cr1 = control.words[1];
-    let space = address::space_of(guest, psw, cr0, cr1, designation);
+    let space = prefixing::space_of(guest, psw, cr0, cr1, designation);
     let at = address::wrapped(psw, a);
     let found = address::locate(storage, keys, space, kind == STORE, at);
     if found < STOPPED {
@@ -119,7 +120,7 @@ pub fn translate_other(
     ensures { λ t. ⌜ t ≡ translatedAs (now (r .entry)) (host designation (now (storage .entry)) (now (keys .entry))) a kind Verdict.Accepted ⌝ }
 {
     let guest = records::guest_of(r);
-    if !refusals::entry_good(guest, r.len() == LONG_RECORD) {
+    if !entry::entry_good(guest, r.len() == LONG_RECORD) {
         return Translated::Validity;
     }
     let psw = records::psw_of(r);
@@ -129,7 +130,7 @@ pub fn translate_other(
     let control = records::table_controls(r);
     let cr0 = control.words[0];
     let cr1 = control.words[1];
-    let space = address::space_of(guest, psw, cr0, cr1, designation);
+    let space = prefixing::space_of(guest, psw, cr0, cr1, designation);
     let at = address::wrapped(psw, a);
     let found = address::locate(storage, keys, space, kind == STORE, at);
     if found < STOPPED {

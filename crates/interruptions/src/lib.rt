@@ -8,7 +8,7 @@ ghost use Rattle.machine.specs.Psw.{withPsw, withTimer, withGeneral, oldPsw};
 ghost use Rattle.machine.specs.Refusals.{framesOf};
 ghost use Rattle.machine.specs.Host.{Host, host, hostVirtual, backing, referenced, changed};
 ghost use Rattle.machine.specs.Interruptions.{fieldsBeside};
-ghost use Rattle.address.specs.Operands.{markFrame};
+ghost use Rattle.writer.specs.Marks.{markFrame};
 ghost use Rattle.interruptions.specs.After.{endedWith, WithKeys, markText, leftBy, Before, codeBytes, ilcOf, codeOf, fieldsOf, InPrefixPage, withRegisters, Keyed, eventBy, cpuBy, Takes};
 use machine::Cpu;
 use machine::Failure;

@@ -1,3 +1,4 @@
 pub mod PageBytes
 pub mod Pages
 pub mod Lens
+pub mod Codes

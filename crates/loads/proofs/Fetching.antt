@@ -16,7 +16,7 @@ use Rattle.machine.specs.Psw.{wrap, withPsw, withTimer, withGeneral, advanced}
 use Rattle.machine.specs.Host.{Host}
 use Rattle.machine.specs.Outcomes.{Progress}
 use Rattle.machine.specs.Execute.{r1, next, fetching, rangeCount, withControls}
-use Rattle.address.specs.Operands.{operandOf}
+use Rattle.operands.specs.Operands.{operandOf}
 use Rattle.interruptions.specs.declared.Done.{Done}
 use Rattle.interruptions.specs.declared.Event.the-variants as event
 use Rattle.interruptions.specs.declared.Frames.{Frames}

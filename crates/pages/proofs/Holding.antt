@@ -25,8 +25,8 @@ use Rattle.laws.proofs.Pages.{realPage-of-page, prefixed-of-page, prefixed-keep
 use Rattle.address.specs.declared.Place.{Place}
 use Rattle.address.specs.declared.Place.the-variants.{At, Denied}
 use Rattle.address.specs.Touching.{Backed, settled, guestProtects, touched, touchOf}
-use Rattle.address.specs.Operands.{markFrame}
 use Rattle.address.proofs.Touches.{touched-is, backed-backing}
+use Rattle.writer.specs.Marks.{markFrame}
 use Rattle.guard.specs.Guarding.{Alike}
 use Rattle.pages.specs.declared.Kept.{Kept}
 use Rattle.pages.specs.declared.Page.{Page}

@@ -24,8 +24,9 @@ use Rattle.desk.proofs.Entries.{added-entry, removed-entry, protected-entry}
 use Rattle.desk.proofs.Changes.{StateFits, length-after}
 use Rattle.desk.proofs.Written.{others-written, segment-written, reach-written, place-written, valid-written, invalid-written}
 use Rattle.tables.specs.Tabling.{PageAt}
-use Rattle.survey.specs.Marking.{Marked, Added, EntryIn, Names, SharedBy, SomePage, Tells, EntryMarked}
+use Rattle.survey.specs.Marking.{Marked, Added, EntryIn, Names, SomePage, Tells, EntryMarked}
 use Rattle.survey.proofs.Marking.{added-one}
+use Rattle.sharing.specs.Sharing.{SharedBy}
 use Rattle.changes.specs.Changing.{frameAfter}
 use Rattle.paging.specs.Meeting.{Meets}
 use Rattle.paging.specs.Giving.{Ready}

@@ -67,7 +67,7 @@ fn entangled(
 {
     let own = first + p;
     let to = first + pages;
-    if survey::shares(storage, designation, first, to, own, place) {
+    if sharing::shares(storage, designation, first, to, own, place) {
         return true;
     }
     let entry = words::word_at(storage, place as usize);
@@ -195,7 +195,7 @@ fn change_accepted(
     ensures { λ a. ⌜ Gives (deskAs c (now (r .entry)) designation (now (storage .entry)) p (now (number .entry)) Verdict.Accepted) a (now (storage .exit)) (now (number .exit)) ⌝ }
 {
     let guest = records::guest_of(r);
-    if !refusals::entry_good(guest, r.len() == LONG_RECORD) {
+    if !entry::entry_good(guest, r.len() == LONG_RECORD) {
         return Called::Validity;
     }
     change_of(storage, c, guest, designation, p, number)
@@ -229,7 +229,7 @@ fn list_for(storage: &[u8], guest: Guest, designation: u32, words: &mut [u32]) -
     if words.len() < pages as usize {
         return Listed::Refused(SHORT_WORKSPACE);
     }
-    Listed::Pages(survey::list(storage, designation, first, pages, words))
+    Listed::Pages(listings::list(storage, designation, first, pages, words))
 }
 
 // A listing, once the input is accepted.
@@ -238,7 +238,7 @@ fn list_accepted(r: &[u8], storage: &[u8], designation: u32, words: &mut [u32]) 
     ensures { λ a. ⌜ Lists (listAs (now (r .entry)) designation (now (storage .entry)) (now (words .entry)) Verdict.Accepted) a (now (words .exit)) ⌝ }
 {
     let guest = records::guest_of(r);
-    if !refusals::entry_good(guest, r.len() == LONG_RECORD) {
+    if !entry::entry_good(guest, r.len() == LONG_RECORD) {
         return Listed::Validity;
     }
     list_for(storage, guest, designation, words)
@@ -260,7 +260,7 @@ fn unbacked_accepted(r: &[u8], storage: &[u8], designation: u32, from: u32, to: 
     ensures { λ x. ⌜ x ≡ unbackedAs (now (r .entry)) designation (now (storage .entry)) from to Verdict.Accepted ⌝ }
 {
     let guest = records::guest_of(r);
-    if !refusals::entry_good(guest, r.len() == LONG_RECORD) {
+    if !entry::entry_good(guest, r.len() == LONG_RECORD) {
         return Found::Validity;
     }
     backing::unbacked_for(storage, guest, designation, from, to)

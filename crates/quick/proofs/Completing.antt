@@ -15,7 +15,7 @@ use Rattle.machine.specs.Host.{Host, referenced}
 use Rattle.machine.specs.Opcodes.{lengthOf}
 use Rattle.machine.specs.Outcomes.{Outcome, Progress}
 use Rattle.machine.specs.Execute.{r1, next, finish, sumCode, summed, branch}
-use Rattle.address.specs.Operands.{markFrame}
+use Rattle.writer.specs.Marks.{markFrame}
 use Rattle.interruptions.specs.After.{leftBy, markText, Left}
 use Rattle.registers.proofs.Ending.{register-set, branched, summed-ends}
 use Rattle.pages.specs.declared.Kept.{Kept}

@@ -20,8 +20,9 @@ use Rattle.machine.specs.Opcodes.{lengthOf}
 use Rattle.machine.specs.Outcomes.{Progress}
 use Rattle.machine.specs.Execute.{r1, next, fetching, storing}
 use Rattle.machine.proofs.Laws.{getD-sets-beside}
-use Rattle.address.specs.declared.Operand.the-variants.{Open}
-use Rattle.address.specs.Operands.{operandOf, inOnePage, markFrame}
+use Rattle.operands.specs.declared.Operand.the-variants.{Open}
+use Rattle.writer.specs.Marks.{markFrame}
+use Rattle.operands.specs.Operands.{operandOf, inOnePage}
 use Rattle.interruptions.specs.declared.Done.{Done}
 use Rattle.interruptions.specs.declared.Frames.{Frames}
 use Rattle.interruptions.specs.After.{leftBy, markText}

@@ -16,10 +16,10 @@ use Rattle.machine.specs.Host.{Host, view}
 use Rattle.machine.specs.Opcodes.{lengthOf, opcodeOf}
 use Rattle.machine.specs.Units.{firstText, secondText, started, instruction}
 use Rattle.laws.proofs.PageBytes.{wrap-by-mode}
-use Rattle.address.specs.declared.Operand.the-variants.{Open}
+use Rattle.operands.specs.declared.Operand.the-variants.{Open}
 use Rattle.address.specs.Touching.{seen}
-use Rattle.address.specs.Operands.{operandOf, inOnePage, toPageEnd}
-use Rattle.address.proofs.Seen.{operand-seen}
+use Rattle.operands.specs.Operands.{operandOf, inOnePage, toPageEnd}
+use Rattle.operands.proofs.Seen.{operand-seen}
 use Rattle.execute.proofs.Reaching.{not-both}
 use Rattle.text.specs.Fetching.{FetchedAs, Halfword, noText, noFrames, oneFrame, whole}
 use Rattle.text.proofs.Halfwords.{wrap-below, initial, further, same-offset, marked-first, marked-once, ends-in-first}

@@ -9,8 +9,8 @@ use Rattle.machine.specs.declared.Psw.{Psw}
 use Rattle.machine.specs.Psw.{basicControl, withPsw, withAddress, advanced, withConditionCode}
 use Rattle.machine.specs.Host.{referenced}
 use Rattle.machine.proofs.Tests.{on-either-arm}
-use Rattle.address.specs.Operands.{markFrame}
 use Rattle.address.specs.Touching.{seen}
+use Rattle.writer.specs.Marks.{markFrame}
 use Rattle.pages.specs.declared.Kept.{Kept}
 use Rattle.pages.specs.Keeping.{Marked, AccessAlike}
 use Rattle.pages.proofs.Holding.{alike-same, marked-referenced}

@@ -10,13 +10,14 @@ ghost use Rattle.machine.specs.Walk.{pageIndex};
 ghost use Rattle.machine.specs.Host.{host, view};
 ghost use Rattle.machine.specs.Addresses.{guestEntry};
 ghost use Rattle.machine.specs.Sought.{wayOfSegment, guestSoughtBy, guestSought, sought};
+ghost use Rattle.prefixing.specs.Prefixing.{Sees, Fits};
 ghost use Rattle.address.specs.Touching.{touchOf};
-ghost use Rattle.address.specs.Locating.{Sees, Fits, failureIn, placeIn};
+ghost use Rattle.address.specs.Locating.{failureIn, placeIn};
 ghost use Rattle.sought.specs.Failing.{ReadAs, ExceptsBy, Excepts};
-use address::Space;
 use machine::Sought;
 use machine::Stage;
 use machine::TableEntry;
+use prefixing::Space;
 
 const PROTECTION: u64 = 4;
 
@@ -52,7 +53,7 @@ fn guest_word(storage: &[u8], space: Space, real: u32) -> u64
     requires { ⌜ Fits space × (real % 4 ≡ 0) ⌝ }
     ensures { λ r. ⌜ ((g : Guest) (c : Cpu) → Sees space g c → (k : List ℕ) → ReadAs (guestEntry g (view g (host (space .designation) (now (storage .entry)) k)) real) r) ⌝ }
 {
-    let at = address::virtual_of(space, real);
+    let at = prefixing::virtual_of(space, real);
     if at >= STOPPED {
         return STOPPED;
     }
@@ -83,7 +84,7 @@ fn guest_by_segment(space: Space, a: u32, code: u64, at: u32, word: u32) -> Soug
     if code != ADDRESSING {
         return guest_page(next);
     }
-    if address::virtual_of(space, next) >= STOPPED {
+    if prefixing::virtual_of(space, next) >= STOPPED {
         return guest_page(0);
     }
     faults::nowhere()

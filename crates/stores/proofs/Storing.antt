@@ -14,7 +14,7 @@ use Rattle.machine.specs.Psw.{wrap, withPsw, advanced, withConditionCode}
 use Rattle.machine.specs.Host.{Host}
 use Rattle.machine.specs.Outcomes.{Outcome, Progress}
 use Rattle.machine.specs.Execute.{next, storing}
-use Rattle.address.specs.Operands.{operandOf}
+use Rattle.operands.specs.Operands.{operandOf}
 use Rattle.interruptions.specs.declared.Done.{Done}
 use Rattle.interruptions.specs.declared.Event.the-variants as event
 use Rattle.interruptions.specs.declared.Frames.{Frames}

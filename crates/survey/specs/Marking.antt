@@ -37,11 +37,6 @@ module _ (d : ℕ) (s : List ℕ) where
   abbrev pub Names : ℕ → ℕ → Type 0
   Names page f = (pageValid d s page ≡ true) × ((frameOf (pageOf d s page) ≡ f) × (f < framesOf s))
 
-  -- the entry at a place is the page entry, in reach, of a host page other than `own`, or its segment entry
-  abbrev pub SharedBy : ℕ → ℕ → ℕ → Type 0
-  SharedBy own page at = ((page ≡ own → ⊥) × ((pageReached d s page ≡ true) × (pagePlace d s page ≡ at)))
-      ⊎ ((segmentReached d s page ≡ true) × (segmentPlace d page ≡ at))
-
 -- so for some host page from `from` up to `to`
 pub record SomePage (P : ℕ → ℕ → Type 0) (from to x : ℕ) : Type 0 where
   pub page : ℕ

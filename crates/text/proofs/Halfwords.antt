@@ -18,11 +18,12 @@ use Rattle.machine.specs.Psw.{wrap, instructionAddress}
 use Rattle.machine.specs.Host.{Host, host, referenced}
 use Rattle.laws.proofs.PageBytes.{wrap-by-mode, referenced-twice}
 use Rattle.laws.proofs.Pages.{wrap-in-page}
-use Rattle.address.specs.declared.Operand.{Operand}
-use Rattle.address.specs.declared.Operand.the-variants.{Open, Shut}
-use Rattle.address.specs.Operands.{operandOf, markFrame}
-use Rattle.address.proofs.Operands.{operand-open}
-use Rattle.address.proofs.Reached.{operand-code, operand-keys, operand-offset, operand-further, operand-in-page}
+use Rattle.writer.specs.Marks.{markFrame}
+use Rattle.operands.specs.declared.Operand.{Operand}
+use Rattle.operands.specs.declared.Operand.the-variants.{Open, Shut}
+use Rattle.operands.specs.Operands.{operandOf}
+use Rattle.operands.proofs.Operands.{operand-open}
+use Rattle.operands.proofs.Reached.{operand-code, operand-keys, operand-offset, operand-further, operand-in-page}
 use Rattle.interruptions.specs.declared.Frames.{Frames}
 use Rattle.interruptions.specs.After.{WithKeys, markText}
 use Rattle.text.specs.Fetching.{Halfword, EndsIn, noFrames, oneFrame, andFrame}

@@ -27,12 +27,13 @@ use Rattle.machine.specs.Outcomes.{Outcome, Progress}
 use Rattle.machine.specs.Interruptions.{exception}
 use Rattle.machine.specs.Units.{decoded, halfword, reading, firstText, secondText, thirdText, halfOf, opcodeIn, fetchThird, fetchSecond, instruction, started}
 use Rattle.laws.proofs.PageBytes.{span-of-wrap, marked-append, referenced-twice}
-use Rattle.address.specs.declared.Operand.{Operand}
-use Rattle.address.specs.declared.Operand.the-variants.{Open, Shut}
 use Rattle.address.specs.Touching.{seen}
-use Rattle.address.specs.Operands.{operandOf, markFrame}
-use Rattle.address.proofs.Operands.{operand-shut, operand-open}
-use Rattle.address.proofs.Seen.{operand-seen}
+use Rattle.writer.specs.Marks.{markFrame}
+use Rattle.operands.specs.declared.Operand.{Operand}
+use Rattle.operands.specs.declared.Operand.the-variants.{Open, Shut}
+use Rattle.operands.specs.Operands.{operandOf}
+use Rattle.operands.proofs.Operands.{operand-shut, operand-open}
+use Rattle.operands.proofs.Seen.{operand-seen}
 use Rattle.interruptions.specs.declared.Frames.{Frames}
 use Rattle.interruptions.specs.After.{Standing, markText}
 use Rattle.text.specs.Fetching.{FetchedAs, Fetches, Halfword, noFrames, cutShort, whole}

@@ -19,8 +19,8 @@ use Rattle.machine.specs.Host.{Host}
 use Rattle.machine.specs.Outcomes.{Outcome, Progress}
 use Rattle.machine.specs.Interruptions.{exception}
 use Rattle.machine.specs.Units.{decoded}
-use Rattle.address.specs.declared.Operand.{Operand}
-use Rattle.address.specs.Operands.{operandOf}
+use Rattle.operands.specs.declared.Operand.{Operand}
+use Rattle.operands.specs.Operands.{operandOf}
 use Rattle.interruptions.specs.declared.Frames.{Frames}
 use Rattle.interruptions.specs.After.{WithKeys, Standing}
 use Rattle.text.specs.declared.Fetched.{Fetched}

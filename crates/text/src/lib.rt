@@ -12,10 +12,9 @@ ghost use Rattle.machine.specs.Opcodes.{opcodeOf};
 ghost use Rattle.machine.specs.Units.{secondText, thirdText, fetchThird, fetchSecond, started, instruction};
 ghost use Rattle.storage.specs.Entered.{Entered};
 ghost use Rattle.address.specs.Touching.{seen};
-ghost use Rattle.address.specs.Operands.{operandOf};
+ghost use Rattle.operands.specs.Operands.{operandOf};
 ghost use Rattle.interruptions.specs.After.{WithKeys};
 ghost use Rattle.text.specs.Fetching.{FetchedAs, Fetches, Usable, Halfword, noText, noFrames, oneFrame, EndsIn, cutShort, whole, unfetched};
-use address::Operand;
 use interruptions::Frames;
 use machine::Class;
 use machine::Failure;
@@ -24,6 +23,7 @@ use machine::Opcode;
 use machine::Psw;
 use machine::Registers;
 use machine::Text;
+use operands::Operand;
 
 // The text of an instruction as far as it is fetched, the frames it was fetched from, and why the next halfword was not where
 // `failed`.
@@ -146,7 +146,7 @@ fn find_half(storage: &[u8], keys: &[u8], by: Addressing, at: u32) -> Operand
         false,
         at,
     );
-    address::one_page(2, place)
+    operands::one_page(2, place)
 }
 
 // The third halfword, on another page than the second.

@@ -1,5 +1,5 @@
-// The stores and marks of a completed unit, made once every access is known good. Each contract equates with what address's
-// Operands says of an opened operand: `count` of its bytes stand in host storage from `first` on, the others from `second` on.
+// The stores and marks of a completed unit, made once every access is known good. Each contract equates with what operands'
+// Opened says of an operand: `count` of its bytes stand in host storage from `first` on, the others from `second` on.
 ghost use mathlib.Core.Path.{_≡_};
 ghost use mathlib.Core.Bool.{cond};
 ghost use Prim.Native.Nat.{_+_, _-_, _/_, _≤_, _<_};
@@ -7,7 +7,7 @@ ghost use lib.ListN.{length, take, drop};
 ghost use lib.Seq.{sets};
 ghost use Rattle.machine.specs.Words.{wordBytes, doubleBytes};
 ghost use Rattle.machine.specs.Host.{referenced, changed};
-ghost use Rattle.address.specs.Operands.{markFrame, markOperand};
+ghost use Rattle.writer.specs.Marks.{markFrame, markOperand};
 
 const WORD: usize = 4;
 

@@ -2,7 +2,7 @@
 -- Assumes nothing.
 use mathlib.Core.Path.{ap, sym, _∙_}
 use borrow.Author.Needs.{needs}
-use Rattle.address.proofs.Seen.{operand-seen}
+use Rattle.operands.proofs.Seen.{operand-seen}
 use Rattle.ahead.specs.Completing.{isOpen}
 use Rattle.ahead.proofs.Reached.{open-reached, small-address}
 use Rattle.ahead.proofs.reaches.Statement.{statement}

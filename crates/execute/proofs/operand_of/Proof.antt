@@ -1,7 +1,7 @@
 -- `execute::operand_of` meets its contract.
 -- Assumes nothing.
 use mathlib.Core.Path.{sym, subst, _∙_}
-use Rattle.address.proofs.Seen.{operand-seen}
+use Rattle.operands.proofs.Seen.{operand-seen}
 use Rattle.execute.specs.Reaching.{InReach}
 use Rattle.execute.proofs.Reaching.{small-of-wrap, in-reach}
 use Rattle.execute.proofs.operand_of.Statement.{statement}

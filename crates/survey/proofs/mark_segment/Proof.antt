@@ -5,7 +5,7 @@ use native.Mathlib.Omega.{arith}
 use mathlib.Core.Path.{_≡_, ap, _∙_}
 use lib.ListN.{getD}
 use Rattle.tables.specs.Tabling.{entryOf}
-use Rattle.survey.proofs.Listing.{reach-low, words-at-front}
+use Rattle.listings.proofs.Listing.{reach-low, words-at-front}
 use Rattle.survey.proofs.Marking.{marks-of-names}
 use borrow.Author.Needs.{needs}
 use Rattle.survey.proofs.mark_segment.Statement.{statement}

@@ -5,7 +5,7 @@ use native.Mathlib.Omega.{arith}
 use mathlib.Core.Path.{_≡_}
 use mathlib.Core.Logic.{⊎-elim}
 use borrow.Author.Needs.{needs}
-use Rattle.survey.proofs.Listing.{reach-low}
+use Rattle.listings.proofs.Listing.{reach-low}
 use Rattle.survey.proofs.Marking.{tells-yes, tells-no, none-marked, marked-segment, marked-table, marked-entry}
 use Rattle.survey.proofs.segment_marked.Statement.{statement}
 use Rattle.survey.proofs.segment_marked.Tie as tie

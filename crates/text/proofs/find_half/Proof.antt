@@ -3,7 +3,7 @@ use Prim.Native.Nat.{_≤_}
 use native.Mathlib.Omega.{arith}
 use borrow.Author.Needs.{needs}
 use borrow.Author.Tests.{le-leb}
-use Rattle.address.specs.Operands.{toPageEnd, operandOf}
+use Rattle.operands.specs.Operands.{toPageEnd, operandOf}
 use Rattle.text.proofs.find_half.Statement.{statement}
 use Rattle.text.proofs.find_half.Tie as tie
 

@@ -3,7 +3,7 @@
 use mathlib.Core.Path.{ap, _∙_}
 use borrow.Author.Needs.{needs}
 use Rattle.machine.specs.Host.{changed}
-use Rattle.address.specs.Operands.{markFrame}
+use Rattle.writer.specs.Marks.{markFrame}
 use Rattle.writer.proofs.mark_areas.Statement.{statement}
 use Rattle.writer.proofs.mark_areas.Tie as tie
 

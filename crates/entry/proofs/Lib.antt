@@ -1,0 +1,2 @@
+-- Laws of the parts of entry.
+pub mod Parts

@@ -1,0 +1,2 @@
+-- The part of entry that goes by the mode.
+pub mod Modes

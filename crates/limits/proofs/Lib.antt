@@ -1,0 +1,2 @@
+-- A law of the part on storage and keys.
+pub mod Parts

@@ -1,0 +1,2 @@
+-- The parts of a verdict beside those on the record.
+pub mod Parts
