@@ -1,4 +1,4 @@
-/* Written from document 01 and requests 1/12 and 2/12 alone, with their numbers spelt out here a second time, so that
+/* Written from document 01 and requests 1/12, 2/12 and 5/12 alone, with their numbers spelt out here a second time, so that
    nothing is shared with what it is compared with. */
 #include "plain.h"
 #include "plain_words.h"
@@ -774,7 +774,7 @@ uint64_t plain_run(uint8_t *record, size_t record_len, uint8_t *storage, size_t 
         refusal = bad_sizes(storage_len, keys_len);
     if (refusal == 0 && budget > 65535)
         refusal = 5;
-    if (refusal == 0 && time > 1048576)
+    if (refusal == 0 && (time < 1 || time > 1048576))
         refusal = 6;
     if (refusal == 0 && reserved_used(record))
         refusal = 7;

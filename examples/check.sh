@@ -67,11 +67,28 @@ scheduler() {
     timeout 120 sh "$EXAMPLES/scheduler.sh"
 }
 
+names() {
+    show make names.txt -o names.case
+    show run names.case --after after.case
+    show trace names.case
+    show_explained after.case '^  (clock  |code|gr4-7) '
+    show run names.case --budget 10 --after cut.case
+    show run cut.case --after resumed.case
+    show_explained resumed.case '^  (clock  |code|gr4-7) '
+    cmp after.case resumed.case
+    echo 'time = 0' > zero.txt
+    show make zero.txt --from names.case -o zero.case
+    show run zero.case --after none.case || echo "status $?"
+    show trace zero.case --after none.case || echo "status $?"
+    [ ! -e none.case ]
+    timeout 60 sh "$EXAMPLES/names.sh"
+}
+
 run() {
     timeout 60 sh "$EXAMPLES/run.sh"
 }
 
-names='batch page_exception protected_page run scheduler'
+names='batch names page_exception protected_page run scheduler'
 differ=0
 for name in $names; do
     set +e

@@ -2,7 +2,7 @@
  * Drevokas: interpretive execution of one 370-XA or System/370 guest CPU with pageable storage.
  *
  * Numbers and byte positions are those of document 01, "Definition of the build and its rules", and of requests 1/12 to
- * 4/12 to it. Bit 0 is the leftmost bit, and what stands in bytes is big-endian.
+ * 5/12 to it. Bit 0 is the leftmost bit, and what stands in bytes is big-endian.
  *
  * The record, 200 bytes with version 1, or 208 with version 2, which System/370 needs:
  *   0-1 length (200 or 208); 2 version (1 or 2); 3 intervention requests; 4 mode; 5 interception controls;
@@ -42,6 +42,7 @@ extern "C" {
 #define DREVOKAS_BLOCK_PAGES 16u    /* pages of a 64 KiB block: an extent has 16 times its field */
 #define DREVOKAS_MOST_PAGES 524288u /* pages of the largest extent */
 #define DREVOKAS_MOST_UNITS 65535u
+#define DREVOKAS_LEAST_TIME 1u
 #define DREVOKAS_MOST_TIME 1048576u
 
 /* The kind of an answer: bits 0-7. */
@@ -60,7 +61,7 @@ extern "C" {
 #define DREVOKAS_REFUSAL_STORAGE 3u  /* storage is empty, over 4,096 frames or not whole frames */
 #define DREVOKAS_REFUSAL_KEYS 4u     /* number of keys differs from number of frames */
 #define DREVOKAS_REFUSAL_BUDGET 5u   /* budget over 65,535; an answer of run alone */
-#define DREVOKAS_REFUSAL_TIME 6u     /* time per unit over 1,048,576; an answer of run alone */
+#define DREVOKAS_REFUSAL_TIME 6u     /* time per unit 0 or over 1,048,576; an answer of run alone */
 #define DREVOKAS_REFUSAL_RESERVED 7u /* one of bytes 66-71, or of 201-203, is not zero; or a residue out of range */
 #define DREVOKAS_REFUSAL_ACCESS 8u   /* access kind is not 0, 1 or 2 */
 #define DREVOKAS_REFUSAL_PAGE 10u    /* page outside the extent, or its entry out of reach */
@@ -223,7 +224,7 @@ uint64_t drevokas_translate(const uint8_t *record, size_t record_len, const uint
                             uint32_t access, uint64_t *where);
 
 /*
- * Runs the guest for at most `budget` units (0 to 65,535) from the host clock `clock`, with `time` (0 to 1,048,576)
+ * Runs the guest for at most `budget` units (0 to 65,535) from the host clock `clock`, with `time` (1 to 1,048,576)
  * clock units for each. Answers:
  *
  *   kind                   number                                 units        low 32 bits of *where
@@ -240,6 +241,9 @@ uint64_t drevokas_translate(const uint8_t *record, size_t record_len, const uint
  * bytes 52-65 by the end. A host fault undoes its whole unit: after the host has mended the page, the same call with the
  * same record goes on. A run goes on from any end but a refusal when it is called again with the record that it left
  * and the clock advanced by units times time (modulo 2^64).
+ *
+ * Any two values that STCK stores in one run differ. So do any two in a run that is cut and goes on in this way, until the
+ * clock has risen by 2^64 in all.
  *
  * Writes the record, the storage, the keys and *where, which must be apart from one another.
  */

@@ -12,7 +12,8 @@ static const struct usage usage = {
     "  good                 entry would succeed\n"
     "  I 32: SENTENCE       entry would fail: the first test that does, of mode, extent or prefix\n"
     "  R NUMBER: SENTENCE   refused, and why\n"
-    "The case file's numbers are no part of this: run refuses a time per unit over 1048576 (R 6).\n\n"
+    "The case file's numbers are no part of this: run refuses a time per unit that is 0 or\n"
+    "over 1048576 (R 6).\n\n"
     "Exit status: 0, 1 if the check is refused, 2 for bad usage or a file that cannot be read.\n",
     NULL, 1, 0, {NULL},
 };

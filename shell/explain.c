@@ -36,7 +36,7 @@ static const struct usage usage = {
 static void explain_numbers(const struct case_file *c)
 {
     unsigned long length = (unsigned long)c->designation & 0x7f;
-    char time[SENTENCE];
+    char time[SENTENCE], wrong[SENTENCE] = "";
 
     printf("Numbers\n  designation    %08lx          ", (unsigned long)c->designation);
     print_from(NUMBER_WORDS, "host segment table at %08lx, length %lu: %lu segments of 1 MiB",
@@ -45,8 +45,9 @@ static void explain_numbers(const struct case_file *c)
     printf("  clock          %016llx  %s us\n", (unsigned long long)c->clock, time);
     microseconds(0, c->time, time, sizeof time);
     printf("  time per unit  %-16lu  ", (unsigned long)c->time);
-    print_from(NUMBER_WORDS, "clock unit%s, %s us%s", plural(c->time), time,
-               c->time > DREVOKAS_MOST_TIME ? ": over 1048576 clock units, so a run is refused (R 6)" : "");
+    if (*wrong_time(c->time) != '\0')
+        add(wrong, ": %s, else a run is refused (R 6)", wrong_time(c->time));
+    print_from(NUMBER_WORDS, "clock unit%s, %s us%s", plural(c->time), time, wrong);
     printf("  budget         %-16u  unit%s\n", (unsigned)c->budget, plural(c->budget));
     printf("  storage        %-16u  frame%s, %08lx-%08lx\n", c->frames, plural(c->frames), 0ul,
            (unsigned long)c->frames * FRAME_BYTES - 1);

@@ -30,7 +30,7 @@ static const char help[] =
     "Settings, in any order, each once; what holds without them is in parentheses\n"
     "  designation = N    host segment-table designation (that of \"host tables\", else 0)\n"
     "  clock = N          host clock (0)\n"
-    "  time = N           time per unit (1us)\n"
+    "  time = N           time per unit, 1 to 1048576, else a run is refused (1us)\n"
     "  budget = N         units, 0 to 65535 (65535)\n"
     "  frames = N         frames of host storage, 1 to 8 (8)\n"
     "  FIELD = N          a field of the record: length (200) version (1) interventions mode (8)\n"

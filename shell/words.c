@@ -110,6 +110,13 @@ unsigned right_version(const uint8_t *record)
     return record_bytes(record) == RECORD_BYTES ? 1 : 2;
 }
 
+const char *wrong_time(uint32_t time)
+{
+    if (time < DREVOKAS_LEAST_TIME)
+        return "must be 1 at least, so that any two values of STCK differ";
+    return time > DREVOKAS_MOST_TIME ? "must be 1048576 at most" : "";
+}
+
 /* Refusal 7: bytes that must be zero, or the residue. */
 static void reserved_sentence(const uint8_t *record, char *text, size_t room)
 {
@@ -136,7 +143,7 @@ void refusal_sentence(unsigned number, const struct case_file *c, char *text, si
                  (unsigned long)field_of(c->record, "version"), right_version(c->record), record_bytes(c->record));
         break;
     case 6:
-        snprintf(text, room, "the time per unit is %lu clock units, and must be 1048576 at most", (unsigned long)c->time);
+        snprintf(text, room, "the time per unit is %lu clock units, and %s", (unsigned long)c->time, wrong_time(c->time));
         break;
     case 7:
         reserved_sentence(c->record, text, room);

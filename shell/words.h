@@ -31,6 +31,9 @@ const char *plural(uint64_t number);
 /* The version that a record of this size has. */
 unsigned right_version(const uint8_t *record);
 
+/* What a time per unit must be, for which a run with this one is refused (R 6); empty if it is right. */
+const char *wrong_time(uint32_t time);
+
 /* Why a case file is refused with this number: what stands there, and what would be right. */
 void refusal_sentence(unsigned number, const struct case_file *c, char *text, size_t room);
 

@@ -4,8 +4,8 @@ COUNT damaged case files through `explain`, `run`, `translate`, `desk` and `unba
 
 Each call must end by itself within a second of CPU time, by no signal, with exit status 0, 1 or 2, and with a message on
 standard error, or of translate with its line, if that is not 0; of unbacked with its line alone if that is 3. A file is left by
-make only with status 0, and is then a case file. Prints the seed, each failure with the name of the input, which is kept in
-FOLDER, and a count; fails if there is a failure."""
+make only with status 0, and is then a case file. Where the time per unit is one that is refused, explain and run end with 1.
+Prints the seed, each failure with the name of the input, which is kept in FOLDER, and a count; fails if there is a failure."""
 import glob
 import os
 import random
@@ -175,6 +175,13 @@ def fuzz_text(texts, cases, i):
 
 # Damage to case files: length 4, version 1, designation 4, clock 8, time 4, budget 2, record 200 or 208, count 1, keys, frames
 
+LEAST_TIME, MOST_TIME = 1, 1048576  # others are refused
+
+
+def time_of(data):
+    return int.from_bytes(data[17:21], "big")
+
+
 def whole(frames, record, keys, storage, designation, time, budget):
     rest = struct.pack(">BIQIH", 1, designation, r.randrange(2**64), time, budget) + record + bytes([frames]) + keys + storage
     return struct.pack(">I", len(rest)) + rest
@@ -203,7 +210,8 @@ def random_case():
     if len(storage) > 4096:
         storage[4096:4100] = struct.pack(">I", r.choice([0x1040, 0x1040, 0x1040, 0x104F, 0x20, 0x7FFFFFC0]))
     designation = r.choice([0x1000, 0x1000, 0x1000, 0x107F, r.randrange(2**32)])
-    time, budget = r.choice([0, 1, 4096, 1048576, 1048577]), r.choice([0, 1, 200, 65535])
+    time = r.choice([0, LEAST_TIME, LEAST_TIME, 4096, 4096, MOST_TIME, MOST_TIME, MOST_TIME + 1])
+    budget = r.choice([0, 1, 200, 65535])
     return whole(frames, bytes(record), r.randbytes(frames), bytes(storage), designation, time, budget)
 
 
@@ -226,8 +234,9 @@ def damage_case(data):
 
 def fuzz_case(cases, i):
     name = os.path.join(FOLDER, f"{i}.case")
+    data = damage_case(r.choice(cases))
     with open(name, "wb") as f:
-        f.write(damage_case(r.choice(cases)))
+        f.write(data)
     before = failures
     address = f"{r.randrange(2**32) >> r.choice([0, 8, 16, 20]):x}"
     page, frame, out = r.choice(["0", "1", "2", "guest:" + address]), str(r.randrange(9)), os.path.join(FOLDER, "desk.out")
@@ -235,8 +244,11 @@ def fuzz_case(cases, i):
     for arguments in (["explain", name], ["run", name], ["translate", name, address, "--access", r.choice(ACCESSES)],
                       ["desk", "list", name], ["desk", "add", name, page, frame, "--after", out],
                       ["desk", r.choice(["remove", "protect"]), name, page, "--after", out], ["unbacked", name, *pages]):
-        if call(name, *arguments) == 2:
+        status = call(name, *arguments)
+        if status == 2:
             fail(f"{arguments[0]} calls a damaged file unreadable", name)
+        if arguments[0] in ("explain", "run") and status != 1 and not LEAST_TIME <= time_of(data) <= MOST_TIME:
+            fail(f"{arguments[0]} ended with {status}, and the time is {time_of(data)}", name)
     if failures == before:
         os.remove(name)
 

@@ -1,9 +1,10 @@
 #!/bin/sh
 # Builds the command and tests it: every sub-command, good and bad input, messages and exit status; all kept case files; runs
 # that are cut and resumed; traces; files that cannot be written; signals; the table entries that are named where a translation
-# fails; the page desk, and the first page that is not valid; the shell's own statement of the rules against the library; then,
-# under valgrind if it is there, every sub-command that reads a case file on every kept one; and damaged files. Prints each
-# failure, and a count. Fails if anything fails; a command that does not end by itself is ended, and has failed.
+# fails; the time per unit, and the clock that STCK stores; the page desk, and the first page that is not valid; the shell's own
+# statement of the rules against the library; then, under valgrind if it is there, every sub-command that reads a case file on
+# every kept one; and damaged files. Prints each failure, and a count. Fails if anything fails; a command that does not end by
+# itself is ended, and has failed.
 set -eu
 . "$(dirname "$0")/../../tools/plain.sh"
 cd "$(dirname "$0")/../.."
@@ -160,6 +161,7 @@ test_cases() {
 test_check() {
     says 0 good '' check "$FILES/ar.in"
     says 0 good '' check "$FILES/time_too_large.in"
+    drevokas help check | tr '\n' ' ' | grep -q 'a time per unit that is 0 or over 1048576 (R 6)' || fail 'help check: time'
     says 0 'I 32: mode is 00 hex: bits 4-5 must be 10, for 370-XA' '' check "$FILES/entry_mode_00.in"
     says 0 'I 32: mode is 0a hex: bit 6 must be zero, since preferred storage is not installed' '' \
         check "$FILES/entry_mode_0a.in"
@@ -324,7 +326,7 @@ test_make() {
     [ ! -e "$OUT/wrong.in" ] || fail 'make: a case file in spite of an error'
     says 2 '' 'none.txt' make "$OUT/none.txt" -o "$OUT/wrong.in"
     says 2 '' 'none/rich.in' make shell/tests/rich.txt -o "$OUT/none/rich.in"
-    for text in examples/batch.txt examples/page_exception.txt examples/protected_page.txt; do
+    for text in examples/batch.txt examples/names.txt examples/page_exception.txt examples/protected_page.txt; do
         says 0 '' '' make "$text" -o "$OUT/example.in"
         says 0 good '' check "$OUT/example.in"
     done
@@ -444,9 +446,12 @@ timeout 300 python3 shell/tests/desk_test.py target/bin/drevokas "$OUT/faults.so
 desk=$!
 timeout 300 python3 shell/tests/unbacked_test.py target/bin/drevokas "$OUT/unbacked" > "$OUT/unbacked.log" 2>&1 &
 unbacked=$!
+timeout 300 python3 shell/tests/clock_test.py target/bin/drevokas "$OUT/clock" > "$OUT/clock.log" 2>&1 &
+clock=$!
 timeout 300 sh shell/tests/fuzz.sh || fail shell/tests/fuzz.sh
 wait "$desk" || fail shell/tests/desk_test.py
 wait "$unbacked" || fail shell/tests/unbacked_test.py
-cat "$OUT/desk.log" "$OUT/unbacked.log"
+wait "$clock" || fail shell/tests/clock_test.py
+cat "$OUT/desk.log" "$OUT/unbacked.log" "$OUT/clock.log"
 echo "$tests shell tests, $failed failed"
 [ "$failed" -eq 0 ]

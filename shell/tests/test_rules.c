@@ -607,7 +607,8 @@ static void compare_psw(struct case_file *c, uint64_t psw, int system370)
     set(c, "interceptions", 0x40);
     set(c, "extent", 1);
     set(c, "psw", psw);
-    answer = drevokas_run(c->record, record_bytes(c->record), c->storage, FRAME_BYTES, c->keys, 1, 0, 0, 0, 1, &where);
+    answer = drevokas_run(c->record, record_bytes(c->record), c->storage, FRAME_BYTES, c->keys, 1, 0, 0,
+                          DREVOKAS_LEAST_TIME, 1, &where);
     not_installed = drevokas_number(answer) == DREVOKAS_CODE_VALIDITY;
     malformed = get(c, "code") == DREVOKAS_CODE_PROGRAM && get(c, "ilc") == 0;
     expect(not_installed == (psw_not_installed(p) != NULL), "PSW not installed", "PSW", (unsigned long)(psw >> 32));
@@ -640,7 +641,7 @@ static void compare_result(struct case_file *c, uint64_t psw)
     put_number(c->storage, 4, 0x40);                                /* the host's tables: page 0 is frame 1 */
     put_number(c->storage + 0x40, 4, FRAME_BYTES);
     put_number(c->storage + FRAME_BYTES + psw_address(psw_of(c->record)), 2, 0x1a11);
-    drevokas_run(c->record, MOST_RECORD_BYTES, c->storage, 2 * FRAME_BYTES, c->keys, 2, 0, 0, 0, 1, &where);
+    drevokas_run(c->record, MOST_RECORD_BYTES, c->storage, 2 * FRAME_BYTES, c->keys, 2, 0, 0, DREVOKAS_LEAST_TIME, 1, &where);
     expect(psw_condition_code(psw_of(c->record)) == 2, "condition code", "PSW", (unsigned long)(psw >> 32));
     expect(psw_address(psw_of(c->record)) == (psw & 0xffffff) + 2, "address", "PSW", (unsigned long)(psw & 0xffffffff));
 }
@@ -693,10 +694,42 @@ static void compare_falls(void)
         set(&c, "psw", random_word() % 0x4000 & ~1u);
         set(&c, "prefix", random_word() % 4 * FRAME_BYTES);
         set(&c, "residue", random_word() % 4 ? 40960000 - random_word() % 4096 - 1 : 0);
-        c.time = random_word() % 2048;
+        c.time = DREVOKAS_LEAST_TIME + random_word() % 2048;
         compare_fall(&c);
     }
     expect(seen[0] >= FEW && seen[1] >= FEW, "too few units", "timer", (unsigned long)seen[1]);
+}
+
+/* ---- the time per unit ---- */
+
+/* A run with this time is refused for it when the shell says so, whatever the budget. */
+static void compare_time(uint32_t time, uint32_t budget)
+{
+    static struct case_file c;
+    uint64_t where = 0, answer;
+
+    memset(&c, 0, sizeof c);
+    set(&c, "length", RECORD_BYTES);
+    set(&c, "version", 1);
+    set(&c, "mode", 8);
+    set(&c, "extent", 1);
+    answer = drevokas_run(c.record, RECORD_BYTES, c.storage, FRAME_BYTES, c.keys, 1, 0, 0, time, budget, &where);
+    expect((drevokas_kind(answer) == DREVOKAS_REFUSED) == (*wrong_time(time) != '\0'), "refused", "time", time);
+    expect(drevokas_kind(answer) != DREVOKAS_REFUSED || drevokas_number(answer) == DREVOKAS_REFUSAL_TIME, "the refusal", "time",
+           time);
+}
+
+static void compare_times(void)
+{
+    static const uint32_t edges[] = {0, 1, 2, 4096, 1048575, 1048576, 1048577, UINT32_C(0x80000000), UINT32_MAX};
+    unsigned i;
+
+    for (i = 0; i < sizeof edges / sizeof *edges; i++) {
+        compare_time(edges[i], 0);
+        compare_time(edges[i], 1);
+    }
+    for (i = 0; i < FEW; i++)
+        compare_time(random_word() >> random_word() % 32, random_word() % 2);
 }
 
 /* ---- microseconds ---- */
@@ -739,6 +772,7 @@ int main(int argc, char **argv)
     compare_psws(1);
     compare_results();
     compare_falls();
+    compare_times();
     test_times();
     printf("test_rules: %lu compared, %lu differ\n", compared, failures);
     return failures != 0;

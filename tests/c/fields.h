@@ -15,6 +15,7 @@
 #define AT_PSW 16
 #define AT_ADDRESSING_MODE 20
 #define AT_TIMER 24
+#define AT_EPOCH 40
 #define AT_RESULTS 52
 #define RESULT_BYTES 14
 #define AT_RESERVED 66

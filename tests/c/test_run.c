@@ -58,7 +58,7 @@ static void test_refusals(void)
 {
     struct machine m = guest(add_loop, sizeof add_loop);
 
-    RUN_REFUSED(&m, 0, 65536, DREVOKAS_REFUSAL_BUDGET);
+    RUN_REFUSED(&m, 1, 65536, DREVOKAS_REFUSAL_BUDGET);
     RUN_REFUSED(&m, 1048577, 1, DREVOKAS_REFUSAL_TIME);
     m.record.at[AT_RESERVED + 5] = 1;
     RUN_REFUSED(&m, 1, 1, DREVOKAS_REFUSAL_RESERVED);

@@ -607,9 +607,9 @@ static void test_basic_addresses(void)
     start(&m);
     leaves_psw(&m, BC_LEFT, 0xff001300u);
     leaves_general(&m, 1, 0x00ffffff);
-    leaves_time(&m, 0);
+    leaves_time(&m, 2);
     m.keys.copy[4] = 4;
-    USES_BUDGET(&m, 0, 2);
+    USES_BUDGET(&m, 1, 2);
     ALL_AS_SAID(&m);
     discard(&m);
 }
@@ -736,7 +736,7 @@ static void test_extended_bits(void)
 static const struct {
     uint32_t time, residue, word, request, residue_after, word_after, request_after;
 } ticks[] = {
-    {0, 40959999, 0, 0x00, 40959999, 0, 0x00},
+    {1, 0, 0, 0x00, 3, 0, 0x00},
     {1, 40959996, 0, 0x00, 40959999, 0, 0x00},
     {1, 40959997, 0, 0x00, 0, 0xffffff00u, 0x80},
     {1, 40959999, 255, 0x7f, 2, 0xffffffffu, 0xff},

@@ -1,10 +1,10 @@
 #!/usr/bin/env python3
 """make.py DIR: writes case files NAME.in into DIR, each with the line NAME.out that the program `case` prints for it.
 
-Every line follows from document 01, and for System/370 guests from request 1/12. A guest program that finds what it
-should ends at DIAGNOSE (code 4); one that does not goes to BAD, where an operation exception leads to a wait, so that
-the code in the line differs. The table that request 2/12 has a failure name is not in the line; there is a file for each
-such table and for each way to it.
+Every line follows from document 01, for System/370 guests from request 1/12, and for the time per unit from request
+5/12. A guest program that finds what it should ends at DIAGNOSE (code 4); one that does not goes to BAD, where an
+operation exception leads to a wait, so that the code in the line differs. The table that request 2/12 has a failure name
+is not in the line; there is a file for each such table and for each way to it.
 """
 import os
 import struct
@@ -70,6 +70,11 @@ def same(r1, r2):
 def word(d, r, b=0):
     """Three units: goes on when the word in storage equals the register. Uses register 1."""
     return load(1, d, b) + same(1, r)
+
+
+def apart(first, second):
+    """Six units: goes on when two clocks differ, the right word of the second by register 15. Uses registers 1 and 2."""
+    return load(2, second + 4) + load(1, first + 4) + sr(2, 1) + need(7) + same(2, 15)
 
 
 def psw(flags=0, address=A31 | TEXT):
@@ -198,6 +203,20 @@ keep("length_before_version", "R 1", stop(r=record(length=201, version=2)))
 keep("version_before_time", "R 2", stop(r=record(version=2), time=1048577))
 keep("time_before_byte_66", "R 6", stop(r=record(byte66=1), time=2 ** 32 - 1))
 keep("refusal_before_entry", "R 7", stop(r=record(byte66=1, mode=0)))
+
+# Time 0: whatever the guest does, before byte 66 and entry. No file can have refusals 3, 4 and 5.
+keep("time_0", "R 6", stop(time=0))
+keep("time_0_no_budget", "R 6", stop(time=0, budget=0))
+add("time_0_stck", "R 6", stck(0x400) + stck(0x408) + END, time=0)
+for budget in 0, 1, 65535:
+    add(f"time_0_no_stck_budget_{budget}", "R 6", bc(15, TEXT), time=0, budget=budget)
+keep("malformed_before_time_0", "R 9", stop(time=0, longer=1))
+keep("length_before_time_0", "R 1", stop(r=record(length=199), time=0))
+keep("version_before_time_0", "R 2", stop(r=record(version=2), time=0))
+keep("time_0_before_byte_66", "R 6", stop(r=record(byte66=1), time=0))
+keep("time_0_before_byte_71", "R 6", stop(r=record(byte71=0x80), time=0))
+for budget in 0, 1:
+    keep(f"time_0_before_entry_budget_{budget}", "R 6", stop(r=record(mode=0), time=0, budget=budget))
 
 keep("malformed_empty", "R 9", b"")
 keep("malformed_part_of_length", "R 9", bytes(3))
@@ -457,6 +476,45 @@ add("stck", "I 4 8", stck(0x401) + need(8) + word(0x401, 14) + word(0x405, 15) +
     epoch=0x1000000010, psw=psw(0x3000), gr={14: 0x11223354, 15: 0x55667798})
 add("stck_second_unit", "I 4 5", lr(2, 3) + stck(0x400) + word(0x404, 15) + END, clock=5, epoch=2, time=10, gr={15: 17})
 add("stck_carry_dropped", "I 4 7", stck(0x400) + word(0x400, 14) + word(0x404, 15) + END, clock=-1, epoch=2, gr={15: 1})
+# Two clocks, the second by register 15 after the first: a unit each, with the time between
+TWO_CLOCKS = stck(0x400) + stck(0x408) + apart(0x400, 0x408) + END
+for time in 1, 2, 4096, 1048576:
+    add(f"stck_twice_time_{time}", "I 4 8", TWO_CLOCKS, time=time, gr={15: time})
+add("stck_twice_by_dat", "I 4 8", TWO_CLOCKS, gr={15: 1}, **dat())
+add("stck_twice_long_record", "I 4 8", TWO_CLOCKS, size=208, gr={15: 1})
+add("stck_twice_unaligned", "I 4 8", stck(0x401) + stck(0x409) + apart(0x401, 0x409) + END, gr={15: 1})
+add("stck_third_unit", "I 4 9", stck(0x400) + lr(3, 4) + stck(0x408) + apart(0x400, 0x408) + END, time=7, gr={15: 14})
+# One STCK twice, by a way of five units: STCK, LA, BCR, LA, BC. Then LA and BCR again, with register 4 for the way out
+add("stck_in_a_loop", "I 4 14", stck(0x400, 3) + la(3, 8, 3) + bcr(15, 4), time=5, gr={4: 0x500, 15: 25},
+    mem={0x500: la(4, 0x600) + bc(15, TEXT), 0x600: apart(0x400, 0x408) + END})
+# Two clocks whose four words are registers 11 to 14; the guest clock wraps, or the host clock does
+FOUR_WORDS = stck(0x400) + stck(0x408) + word(0x400, 11) + word(0x404, 12) + word(0x408, 13) + word(0x40C, 14) + END
+for name, clock, epoch, time, words in [
+    ("epoch_wraps", 5, -6, 1, (0xFFFFFFFF, 0xFFFFFFFF, 0, 0)),
+    ("epoch_wraps_largest_time", 2 ** 63, 2 ** 63 - 1, 1048576, (0xFFFFFFFF, 0xFFFFFFFF, 0, 0x000FFFFF)),
+    ("clock_wraps", -1, 0, 1, (0xFFFFFFFF, 0xFFFFFFFF, 0, 0)),
+    ("clock_wraps_before_epoch", -1, 7, 1, (0, 6, 0, 7)),
+    ("carry_to_left_word", 0xFFFFFFF0, 15, 1, (0, 0xFFFFFFFF, 1, 0)),
+]:
+    add("stck_twice_" + name, "I 4 14", FOUR_WORDS, clock=clock, epoch=epoch, time=time,
+        gr={11 + n: w for n, w in enumerate(words)})
+# An interrupting unit between: twice the time. The handler reads the second clock
+SECOND_CLOCK = stck(0x408) + apart(0x400, 0x408) + END
+TO_HANDLER = f"{psw(0, A31 | HANDLER):016x}"
+for name, new, text, given in [
+    ("svc", 0x60, svc(5), {}),
+    ("operation", 0x68, "0000", {}),
+    ("addressing", 0x68, load(3, 0, 4), {"gr": {4: 0x10000}}),
+    ("alignment", 0x68, lpsw(0x404), {}),
+    ("overflow", 0x68, ar(3, 4), {"gr": {3: 0x7FFFFFFF, 4: 1}, "psw": psw(OVERFLOW)}),
+]:
+    gr = {15: 20, **given.pop("gr", {})}
+    add(f"stck_{name}_stck", "I 4 9", stck(0x400) + text, time=10, gr=gr, mem={new: TO_HANDLER, HANDLER: SECOND_CLOCK}, **given)
+add("stck_svc_stck_largest_time", "I 4 9", stck(0x400) + svc(5), time=1048576, gr={15: 2097152},
+    mem={0x60: TO_HANDLER, HANDLER: SECOND_CLOCK})
+# LPSW, and then the interruption by what it loaded: two units
+add("stck_malformed_psw_stck", "I 4 10", stck(0x400) + lpsw(0x500), time=10, gr={15: 30},
+    mem={0x500: f"{psw(0x4000):016x}", 0x68: TO_HANDLER, HANDLER: SECOND_CLOCK})
 add("stpt", "I 4 8", lr(2, 3) + stpt(0x400) + word(0x400, 14) + word(0x404, 15) + END, timer=-90, time=10,
     gr={14: 0xFFFFFFFF, 15: 0xFFFFFF9C})
 add("spt", "I 4 5", spt(0x400) + stpt(0x408) + word(0x40C, 15) + END, mem={0x400: hexes(0, 50)}, time=10, gr={15: 40})
@@ -544,12 +602,12 @@ def system370(name, **given):
     add("system370_" + name, **guest(**given))
 
 
-def long(**given):
-    return stop(r=record(**{"size": 208, "mode": 4, "v": 0x04, **given}))
+def long(time=1, budget=1, **given):
+    return stop(r=record(**{"size": 208, "mode": 4, "v": 0x04, **given}), time=time, budget=budget)
 
 
 keep("system370_stop", "I 40 0", long())
-keep("system370_no_budget", "B 0 0", stop(r=record(size=208, mode=4, v=0x04), budget=0))
+keep("system370_no_budget", "B 0 0", long(budget=0))
 keep("system370_largest", "I 40 0", stop(8, r=record(size=208, mode=4, v=0x04)))
 keep("long_record_mode_10", "I 40 0", long(mode=8))
 keep("long_record_version_1", "R 2", long(version=1))
@@ -564,6 +622,14 @@ keep("residue_out_of_range", "R 7", long(residue=FULL + 1))
 keep("residue_out_of_range_inactive", "R 7", long(residue=2 ** 32 - 1, mode=5))
 keep("residue_largest", "I 40 0", long(residue=FULL))
 keep("long_record_version_before_byte_201", "R 2", long(version=3, byte201=1))
+keep("system370_time_0", "R 6", long(time=0))
+keep("system370_time_0_no_budget", "R 6", long(time=0, budget=0))
+keep("long_record_time_0_mode_10", "R 6", long(time=0, mode=8))
+keep("long_record_malformed_before_time_0", "R 9", long(time=0, length=200))
+keep("long_record_version_before_time_0", "R 2", long(time=0, version=1))
+for name, given in ("byte_66", {"byte66": 1}), ("byte_201", {"byte201": 1}), ("byte_203", {"byte203": 0x80}), \
+        ("residue", {"residue": FULL + 1}), ("entry", {"mode": 0}), ("entry_prefix", {"prefix": 0x01000000, "extent": 512}):
+    keep(f"long_record_time_0_before_{name}", "R 6", long(time=0, **given))
 keep("long_record_malformed_no_frame_count", "R 9", struct.pack(">I", 227) + long()[4:231])
 keep("long_record_malformed_byte_after", "R 9", long() + b"\0")
 
@@ -708,7 +774,7 @@ timed("stored_in_the_unit", "I 4 4", 0x300, st(2, 80) + READ, gr={2: 0x1000, 15:
 timed("stored_in_part", "I 4 4", 0x300, st(2, 78) + READ, gr={2: 0x00001234, 15: 0x12340200})
 timed("wraps", "I 4 4", 0x80000010, lr(2, 3) + READ, gr={15: 0x7FFFFF10})
 timed("inactive", "I 4 4", 0x300, lr(2, 3) + READ, mode=5, gr={15: 0x300})
-timed("time_0", "I 4 4", 0x300, lr(2, 3) + READ, time=0, gr={15: 0x300})
+timed("time_1", "I 4 4", 0x300, lr(2, 3) + READ, residue=FULL - 12, gr={15: 0x300})
 add("long_record_timer_mode_10", "I 4 4", lr(2, 3) + READ, size=208, residue=FULL, mem={80: hexes(0x300)}, gr={15: 0x300})
 timed("low_address_and_key", "I 4 4", 0x300, lr(2, 3) + READ, cr={0: LOW}, psw=basic(0x00100000), keys=[0x20], gr={15: 0x200})
 timed("prefixed", "I 4 4", 0x300, lr(2, 3) + READ, at=0x1000 | TEXT, prefix=0x1000,
@@ -717,6 +783,8 @@ ON = {"psw": basic(EXTERNAL), "cr": {0: INTERVAL}}
 for before, line in (0, "I 20 1"), (255, "I 20 1"), (256, "I 4 1"), (0x80000100, "I 4 1"), (0x80000000, "I 4 1"), \
         (0x800000FF, "I 4 1"), (0xFFFFFFFF, "I 4 1"), (0x7FFFFFFF, "I 4 1"):
     timed(f"word_{before:08x}", line, before, lr(2, 3) + END, **ON)
+for residue, line in (FULL - 12, "I 4 4"), (FULL - 11, "I 20 4"):  # four units of time 1 add 12
+    timed(f"time_1_residue_{residue}", line, 0, lr(2, 3) * 4 + END, residue=residue, **ON)
 timed("word_00000000_ec", "I 20 1", 0, lr(2, 3) + END, psw=extended(EXTERNAL), cr={0: INTERVAL})
 timed("t_waits_for_the_mask", "I 20 3", 0, lr(2, 3) + lr(2, 3) + lpsw(0x400), mem={0x400: f"{basic(EXTERNAL):016x}"},
       cr={0: INTERVAL})
@@ -725,6 +793,20 @@ timed("largest_time_two_falls", "I 20 27", 256, bc(15, TEXT), residue=0, time=10
 timed("svc_is_a_unit", "I 20 1", 0, svc(1), mem={0x60: hexes(EXTERNAL, HANDLER)}, cr={0: INTERVAL})
 timed("malformed_psw_is_a_unit", "I 20 1", 0, psw=extended(0x4000), mem={0x68: hexes(EXTERNAL, HANDLER)}, cr={0: INTERVAL})
 timed("an_exit_is_none", "I 4 0", 0, END, **ON)
+
+# Two clocks. The interval timer's word falls in the unit of the first one
+
+for name, form in ("bc", basic), ("ec", extended):
+    system370(name + "_time_0_stck", line="R 6", text=TWO_CLOCKS, psw=form(), time=0)
+    for time in 1, 1048576:
+        system370(f"{name}_stck_twice_time_{time}", line="I 4 8", text=TWO_CLOCKS, psw=form(), time=time, gr={15: time},
+                  residue=FULL)
+    new = f"{form(0, HANDLER):016x}"
+    for between, text, place in ("svc", svc(5), 0x60), ("operation", "0000", 0x68):
+        system370(f"{name}_stck_{between}_stck", line="I 4 9", text=stck(0x400) + text, psw=form(), time=10, gr={15: 20},
+                  residue=FULL, mem={place: new, HANDLER: SECOND_CLOCK})
+    system370(name + "_stck_twice_epoch_wraps", line="I 4 14", text=FOUR_WORDS, psw=form(), clock=5, epoch=-6,
+              gr={11: 0xFFFFFFFF, 12: 0xFFFFFFFF})
 
 # The interval timer: host faults at its word. The prefix page is at SPOT, so that real SPOT is absolute 0
 

@@ -1,9 +1,10 @@
 #!/bin/sh
 # Mutates the model in many small ways and checks that `compare`, with its default cases and seed, finds each; those of requests
 # 1/12 and 2/12 must be found by tests/system_370.rs and tests/which_table.rs too. Those of the desk's model must be found by
-# `desk_calls` and by tests/desk.rs, those of the first unbacked page by `first_unbacked` and by tests/first_unbacked.rs. Not in
-# the gate. Takes some minutes. With arguments: only the mutants whose names contain one of these words; the names of the desk's
-# begin with "desk:", those of the first unbacked page's with "unbacked:".
+# `desk_calls` and by tests/desk.rs, those of the first unbacked page by `first_unbacked` and by tests/first_unbacked.rs, those of
+# request 5/12 by `store_clock` and by tests/store_clock.rs. Not in the gate. Takes some minutes. With arguments: only the mutants
+# whose names contain one of these words; the names of the desk's begin with "desk:", those of the first unbacked page's with
+# "unbacked:", those of request 5/12 with "clock:".
 set -u
 . "$(dirname "$0")/../../tools/plain.sh"
 package=$(cd "$(dirname "$0")" && pwd)
@@ -171,7 +172,7 @@ mutant "code 8 with the text" '/fn program_exception/,/^    }/ s/^            se
 mutant "results of the last run kept" 's/record\[RESULT_CODE\.\.66\]\.fill\(0\)/record[RESULT_CODE..65].fill(0)/'
 
 # Refusals and entry.
-mutant "greatest time refused" 's/if time > 1_048_576/if time >= 1_048_576/'
+mutant "greatest time refused" 's/time > 1_048_576/time >= 1_048_576/'
 mutant "greatest storage refused" 's/storage_len > 4096 \* FRAME/storage_len >= 4096 * FRAME/'
 mutant "reserved bytes before the numbers" '/^pub fn refuse_run/,/^}/ s/\.or_else\(\|\| refuse_numbers\(budget, time\)\)/.or_else(|| refuse_reserved(record)).or_else(|| refuse_numbers(budget, time))/'
 mutant "prefix bit 0 counts" 's/word\(record, PREFIX\) & 0x7FFF_F000/word(record, PREFIX) \& 0xFFFF_F000/'
@@ -569,6 +570,75 @@ mutant "unbacked: B cut to the extent" '/^pub fn first_unbacked/,/^}/ s/ \|\| to
 mutant "unbacked: B past the extent refused where none is found" '/^pub fn first_unbacked/,/^}/ s/\|\| to > tables\.pages\(\)/|| to > tables.pages() \&\& survey(tables, from, tables.pages()).is_empty()/' both
 mutant "unbacked: 16 where no page is in reach" '/^pub fn first_unbacked/,/^}/ s/from > to \|\| /from > to || from < to \&\& tables.segment_entry(tables.host_page(from) >> 8).is_none() || /' both
 mutant "unbacked: 14 asked" '/^pub fn first_unbacked/,/^}/ s/^    match survey/    if entry_in_guest_frame(tables) {\n        return Unbacked::Refused(14);\n    }\n&/' both
+
+# Request 5/12: the time that is refused, and where.
+module=model
+comparison=store_clock
+suite=store_clock
+mutant "clock: time 0 taken" 's/time == 0 \|\| //' both
+mutant "clock: time 0 taken with budget 0" 's/time == 0 \|\| /time == 0 \&\& budget > 0 || /' both
+mutant "clock: time 0 taken with budget 1" 's/time == 0 \|\| /time == 0 \&\& budget != 1 || /' both
+mutant "clock: time 0 taken with the greatest budget" 's/time == 0 \|\| /time == 0 \&\& budget != 65_535 || /' both
+mutant "clock: time 0 taken in 370-XA mode" 's/\.or_else\(\|\| refuse_numbers\(budget, time\)\)/.or_else(|| refuse_numbers(budget, time).filter(|_| budget > 65_535 || time > 0 || system_370(record)))/' both
+mutant "clock: time 0 taken in System/370 mode" 's/\.or_else\(\|\| refuse_numbers\(budget, time\)\)/.or_else(|| refuse_numbers(budget, time).filter(|_| budget > 65_535 || time > 0 || !system_370(record)))/' both
+mutant "clock: time 0 taken in the record of 208 bytes" 's/\.or_else\(\|\| refuse_numbers\(budget, time\)\)/.or_else(|| refuse_numbers(budget, time).filter(|_| budget > 65_535 || time > 0 || record.len() == 200))/' both
+mutant "clock: time 0 taken with a stop request" 's/\.or_else\(\|\| refuse_numbers\(budget, time\)\)/.or_else(|| refuse_numbers(budget, time).filter(|_| budget > 65_535 || time > 0 || record[INTERVENTION] \& 0x04 == 0))/' both
+mutant "clock: time 0 taken as 1" 's/time == 0 \|\| //; /^pub fn run\(/,/^}/ s/clock, time, units: 0/clock, time: time.max(1), units: 0/' both
+mutant "clock: time 1 refused" 's/time == 0 \|\| /time <= 1 || /' both
+mutant "clock: greatest time refused" 's/time > 1_048_576/time >= 1_048_576/' both
+mutant "clock: time one past the greatest taken" 's/time > 1_048_576/time > 1_048_577/' both
+mutant "clock: time compared as signed" 's/time > 1_048_576/time as i32 > 1_048_576/' both
+mutant "clock: time 0 refused as 5" '/^fn refuse_numbers/,/^}/ s/if budget > 65_535/if budget > 65_535 || time == 0/' both
+mutant "clock: time 0 refused as 7" '/^fn refuse_numbers/,/^}/ s/return Some\(6\)/return Some(if time == 0 { 7 } else { 6 })/' both
+mutant "clock: time 0 before 1" '/^pub fn refuse_run/,/^}/ s/^    refuse_record\(record\)$/    (time == 0).then_some(6).or_else(|| refuse_record(record))/' both
+mutant "clock: time 0 before 2" '/^pub fn refuse_run/,/^}/ s/^    refuse_record\(record\)$/&.map(|number| if number == 2 \&\& time == 0 { 6 } else { number })/' both
+mutant "clock: time 0 before 3" '/^pub fn refuse_run/,/^}/ s/refuse_storage\(storage_len, keys_len\)/&.map(|number| if number == 3 \&\& time == 0 { 6 } else { number })/' both
+mutant "clock: time 0 before 4" '/^pub fn refuse_run/,/^}/ s/refuse_storage\(storage_len, keys_len\)/&.map(|number| if number == 4 \&\& time == 0 { 6 } else { number })/' both
+mutant "clock: time 0 before 5" '/^fn refuse_numbers/,/^}/ s/^    if budget > 65_535/    if time == 0 {\n        return Some(6);\n    }\n&/' both
+mutant "clock: time 0 after 7" 's/time == 0 \|\| //; /^pub fn refuse_run/,/^}/ s/^        \.or_else\(\|\| refuse_reserved\(record\)\)/&.or_else(|| (time == 0).then_some(6))/' both
+mutant "clock: time 0 after the entry failure" 's/time == 0 \|\| //; /^pub fn run\(/,/^}/ s/^    record\[RESULT_CODE\.\.66\]/    if time == 0 \&\& entry_is_good(record) {\n        return Run { answer: Answer::Refused(6), units: 0, events };\n    }\n&/' both
+mutant "clock: time 0 clears the results" '/^pub fn run\(/,/^}/ s/^    if let Some\(number\) = refuse_run/    if time == 0 \&\& record.len() >= 200 {\n        record[RESULT_CODE..66].fill(0);\n    }\n&/' both
+
+# Request 5/12: the readings. adds_no_time SORT-OF-UNIT CONDITION [STATEMENT-BEFORE-THE-UNIT-IS-DONE]
+adds_no_time() {
+    mutant "clock: $1 adds no time" "/fn complete\\(/,/^    }/ s/self\\.clock\\.wrapping_add\\(self\\.time as u64\\)/self.clock.wrapping_add(if $2 { 0 } else { self.time as u64 })/; s/^        let interval_timer = match/        ${3:-}\\n&/" both
+}
+adds_no_time "STCK" 'unit.reading.is_some()'
+adds_no_time "what is not STCK" 'unit.reading.is_none()'
+adds_no_time "an interruption" 'interruption.is_some()'
+adds_no_time "an SVC interruption" 'interruption == Some(SVC_INTERRUPTION)'
+adds_no_time "a program interruption" 'interruption.is_some_and(|code| code != SVC_INTERRUPTION)'
+adds_no_time "an operation exception" 'interruption == Some(OPERATION)'
+adds_no_time "a protection exception" 'interruption == Some(PROTECTION)'
+adds_no_time "an addressing exception" 'interruption == Some(ADDRESSING)'
+adds_no_time "a specification exception" 'interruption == Some(SPECIFICATION)'
+adds_no_time "an overflow" 'interruption == Some(FIXED_POINT_OVERFLOW)'
+adds_no_time "a malformed PSW" 'malformed' 'let malformed = psw_is_malformed(self.record);'
+adds_no_time "an interruption with a BC PSW" 'basic' 'let basic = form(self.record) == Form::Bc \&\& interruption.is_some();'
+adds_no_time "LPSW" 'loaded' 'let loaded = interruption.is_none() \&\& self.record[PSW..PSW + 2] != unit.record[PSW..PSW + 2];'
+adds_no_time "a branch" 'branches' 'let step = instruction_address(\&unit.record).wrapping_sub(instruction_address(self.record));\n        let branches = interruption.is_none() \&\& step != 2 \&\& step != 4;'
+adds_no_time "a unit without a store" 'idle' 'let idle = unit.stores.is_empty();'
+adds_no_time "a run's first unit" 'self.units == 0'
+adds_no_time "a unit in which the word falls" 'interval_timer.is_some()'
+mutant "clock: STCK after its unit's time" 's/instruction\(&view, &mut unit, self\.clock\)/instruction(\&view, \&mut unit, self.clock.wrapping_add(self.time as u64))/' both
+mutant "clock: the run's first clock stored" '/fn complete\(/,/^    }/ s/self\.clock\.wrapping_add\(self\.time as u64\)/self.clock/' both
+mutant "clock: rises by 1" '/fn complete\(/,/^    }/ s/self\.clock\.wrapping_add\(self\.time as u64\)/self.clock.wrapping_add(1)/' both
+mutant "clock: rises by twice the time" '/fn complete\(/,/^    }/ s/self\.clock\.wrapping_add\(self\.time as u64\)/self.clock.wrapping_add(2 * self.time as u64)/' both
+mutant "clock: time cut to 16 bits" '/fn complete\(/,/^    }/ s/self\.clock\.wrapping_add\(self\.time as u64\)/self.clock.wrapping_add(self.time as u16 as u64)/' both
+mutant "clock: time cut to 20 bits" '/fn complete\(/,/^    }/ s/self\.clock\.wrapping_add\(self\.time as u64\)/self.clock.wrapping_add(self.time as u64 \& 0xF_FFFF)/' both
+mutant "clock: stops at 2^64 - 1" '/fn complete\(/,/^    }/ s/self\.clock\.wrapping_add\(self\.time as u64\)/self.clock.saturating_add(self.time as u64)/' both
+mutant "clock: wraps at 2^63" '/fn complete\(/,/^    }/ s/self\.clock\.wrapping_add\(self\.time as u64\)/self.clock.wrapping_add(self.time as u64) \& i64::MAX as u64/' both
+mutant "clock: no carry into the left word" '/fn complete\(/,/^    }/ s/self\.clock\.wrapping_add\(self\.time as u64\)/(self.clock >> 32 << 32 | (self.clock as u32).wrapping_add(self.time) as u64)/' both
+mutant "clock: epoch not added" '/^fn guest_clock/,/^}/ s/clock\.wrapping_add\(doubleword\(record, EPOCH\)\)/clock.wrapping_add(0 * doubleword(record, EPOCH))/' both
+mutant "clock: epoch not added by STCK" 's/let value = guest_clock\(record, clock\)/let value = clock/' both
+mutant "clock: epoch added twice" '/^fn guest_clock/,/^}/ s/clock\.wrapping_add\(doubleword\(record, EPOCH\)\)/&.wrapping_add(doubleword(record, EPOCH))/' both
+mutant "clock: clock and epoch stop at 2^64 - 1" '/^fn guest_clock/,/^}/ s/wrapping_add/saturating_add/' both
+mutant "clock: no carry from clock and epoch" '/^fn guest_clock/,/^}/ s/clock\.wrapping_add\(doubleword\(record, EPOCH\)\)/clock | doubleword(record, EPOCH)/' both
+mutant "clock: whole microseconds stored" 's/let value = guest_clock\(record, clock\)/let value = guest_clock(record, clock) \& !0xFFF/' both
+mutant "clock: last bit stored as one" 's/let value = guest_clock\(record, clock\)/let value = guest_clock(record, clock) | 1/' both
+mutant "clock: an interception is a unit" '/^pub fn run\(/,/^}/ s/return Run \{ answer, units, /return Run { answer, units: units + matches!(answer, Answer::Intercepted(_)) as u32, /' both
+mutant "clock: a host fault is a unit" '/^pub fn run\(/,/^}/ s/return Run \{ answer, units, /return Run { answer, units: units + matches!(answer, Answer::HostFault(..)) as u32, /' both
+mutant "clock: stored up to a page that fails" '/Operation::StoreClock =>/,/^        }/ s/^            let places = view/            for offset in 0..8 {\n                match view.access(address.wrapping_add(offset), Access::Store) {\n                    Ok(place) => unit.store(\&[place], \&[guest_clock(record, clock).to_be_bytes()[offset as usize]]),\n                    Err(_) => break,\n                }\n            }\n&/; s/unit\.stores\.clear\(\);//' both
 
 echo "mutants: $total, caught $caught, missed $missed"
 [ $missed -eq 0 ] && [ $total -gt 0 ]

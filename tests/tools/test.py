@@ -302,7 +302,7 @@ class Environment(unittest.TestCase):
 
     def test_scripts(self):
         self.assertEqual(self.call("sh", os.path.join(ROOT, "examples/run.sh")), (0, Build.DEMO))
-        self.assertEqual(self.call("sh", os.path.join(ROOT, "examples/check.sh")), (0, "5 examples, 0 differ\n"))
+        self.assertEqual(self.call("sh", os.path.join(ROOT, "examples/check.sh")), (0, "6 examples, 0 differ\n"))
         status, printed = self.call("sh", os.path.join(ROOT, "tests/cases/run.sh"))
         self.assertEqual((status, printed.split(", ")[1]), (0, "0 differ\n"), printed)
         status, printed = self.call("python3", os.path.join(ROOT, "tests/docs/check.py"), os.path.join(ROOT, "README.md"))

@@ -69,6 +69,9 @@ pub fn numbers_verdict(n: Numbers) -> Verdict
     if n.budget > MOST_UNITS {
         return Verdict::Refused(WRONG_BUDGET);
     }
+    if n.time == 0 {
+        return Verdict::Refused(WRONG_TIME);
+    }
     if n.time > MOST_TIME {
         return Verdict::Refused(WRONG_TIME);
     }

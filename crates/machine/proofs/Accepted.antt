@@ -80,13 +80,14 @@ good-input-is-accepted = record {
         access-good r s k good kind h,
       );
   byRun =
-      λ n r s k good b t.
+      λ n r s k good b some t.
       rw (
         length-good r s k good,
         version-good r s k good,
         storage-good r s k good,
         keys-good r s k good,
         le-ltb mostUnits (n .budget) b,
+        ne-eqb (n .time) 0 (omega arith),
         le-ltb mostTime (n .time) t,
         reserved-good r s k good,
       );

@@ -439,7 +439,7 @@ word-is-backed n m at e = by-accesses (subst (GoodAll _ _) e (word-good n m (Any
     by-accesses (reachesAll s) = have-pages n m s
 
 -- a step keeps the guest
-step-guest : (n : Numbers) (m : Machine) → guestOf ((left-by (step n m)) .description) ≡ guestOf (m .description)
+pub step-guest : (n : Numbers) (m : Machine) → guestOf ((left-by (step n m)) .description) ≡ guestOf (m .description)
 unfolding afterUnit withTick withWord
 step-guest n m =
     step-keeps n (λ (k : Machine). guestOf (k .description) ≡ guestOf (m .description)) (λ k c e same. guest-of-withCpu _ _ ∙ same)

@@ -16,6 +16,8 @@ pub mod Slips
 pub mod Backed
 pub mod FrameBytes
 pub mod Backing
+pub mod Readings
+pub mod Courses
 pub mod Effects
 pub mod Twins
 pub mod Isolation

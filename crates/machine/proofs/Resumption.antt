@@ -55,11 +55,11 @@ run-renumbered (suc k) n clock budget m =
     by-step later (ends e next) = refl
 
 -- a completed unit advances the clock; no step ends a run as budget used
-abbrev Clocked : Numbers → Machine → Step → Type 0
+abbrev pub Clocked : Numbers → Machine → Step → Type 0
 Clocked n m (goes next) = next .clock ≡ (m .clock + n .time) % 2 ^ 64
 Clocked n m (ends e next) = e ≡ BudgetUsed → ⊥
 
-step-clocked : (n : Numbers) (m : Machine) → Clocked n m (step n m)
+pub step-clocked : (n : Numbers) (m : Machine) → Clocked n m (step n m)
 unfolding afterUnit clockAfter withTick withWord
 step-clocked n m =
     step-cases n m (Clocked n m) (λ c e is next u. update-keeps n m _ (λ k. Clocked n m (goes k)) (λ q r k h. h) (λ at w k h. h) refl u)

@@ -2,7 +2,7 @@
 -- Assumes nothing.
 use Prim.Native.Nat.{ℕ, zero, suc, _+_, _≤_, _<_}
 use native.Mathlib.Omega.{arith}
-use mathlib.Core.Path.{_≡_, refl, sym}
+use mathlib.Core.Path.{_≡_, refl, sym, _∙_}
 use mathlib.Core.Bool.{Bool, true, false, not, _&&_, _||_, false≢true}
 use mathlib.Core.List.{List}
 use mathlib.Core.Logic.{_⊎_, inl, inr, ⊎-elim}
@@ -24,6 +24,11 @@ pub accepted-test : (number : ℕ) (test : Bool) (later : Verdict) → refuse nu
 accepted-test number true later e = (cc, cc)
 accepted-test number false later e = (refl, e)
 
+-- of two tests neither holds
+neither : (a b : Bool) → (a || b) ≡ false → (a ≡ false) × (b ≡ false)
+neither true b e = absurd (false≢true (sym e))
+neither false b e = (refl, e)
+
 -- what the tests of lengths say where they fail
 
 pub length-of-right : (r : List ℕ) → wrongLength r ≡ false → GoodLength r
@@ -39,6 +44,11 @@ length-of-right r right = either (eqb (length r) recordLength) refl (eqb (length
 pub keys-of-right : (storage keys : List ℕ) → wrongKeys storage keys ≡ false → length keys ≡ framesOf storage
 unfolding wrongKeys
 keys-of-right storage keys right = eqb-true (length keys) (framesOf storage) (not-false _ right)
+
+-- a time of 0 is wrong
+no-time : (n : Numbers) → n .time ≡ 0 → wrongTime n ≡ true
+unfolding wrongTime
+no-time n e = rw e
 
 module _ (n : Numbers) (r storage keys : List ℕ) (accepted : runVerdict n r storage keys ≡ Accepted) where
   pub accepted-length : GoodLength r
@@ -74,17 +84,20 @@ module _ (n : Numbers) (r storage keys : List ℕ) (accepted : runVerdict n r st
 
   pub accepted-time : n .time ≤ mostTime
   unfolding wrongTime
-  accepted-time = ltb-false mostTime (n .time) (later-tests .0)
+  accepted-time = ltb-false mostTime (n .time) (neither (eqb (n .time) 0) _ (later-tests .0) .1)
+
+  pub accepted-some-time : 0 < n .time
+  accepted-some-time = by-time (n .time) refl
+    where
+      by-time : (t : ℕ) → n .time ≡ t → 0 < t
+      by-time zero e = absurd (false≢true (sym (later-tests .0) ∙ no-time n e))
+      by-time (suc t) e = omega arith
 
   pub accepted-residue : length r ≡ longLength → residueOf r < period
   unfolding reservedUsed wrongInterval
   accepted-residue long =
       leb-false period (residueOf r)
-      (second (used r 201 3) _ (rw (eq-eqb (length r) longLength long) at (second (used r 66 6) _ (later-tests .1))))
-    where
-      second : (a b : Bool) → (a || b) ≡ false → b ≡ false
-      second true b e = absurd (false≢true (sym e))
-      second false b e = e
+      (neither (used r 201 3) _ (rw (eq-eqb (length r) longLength long) at (neither (used r 66 6) _ (later-tests .1) .1)) .1)
 
 -- bytes that are all zero, or not
 

@@ -1,4 +1,4 @@
--- The definition of document 01 with requests 1/12 and 2/12. One module for each part; docs/ARCHITECTURE.md has the table of headings and names.
+-- The definition of document 01 with requests 1/12, 2/12 and 5/12. One module for each part; docs/ARCHITECTURE.md has the table of headings and names.
 pub mod Sizes
 pub mod Words
 pub mod Record
@@ -22,6 +22,8 @@ pub mod Run
 pub mod Operations
 pub mod Answers
 pub mod Theorems
+pub mod Readings
+pub mod Courses
 pub mod Isolation
 pub mod IntervalTimer
 pub mod WhichTable

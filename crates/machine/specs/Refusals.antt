@@ -1,4 +1,4 @@
--- Document 01, "The record", the table of refusals, and request 1/12 on 1, 2 and 7. Refusal 9 is the case file's.
+-- Document 01, "The record", the table of refusals, request 1/12 on 1, 2 and 7, and request 5/12 on 6. Refusal 9 is the case file's.
 use Prim.Native.Nat.{ℕ, zero, suc, _+_, _*_, _/_, _%_}
 use mathlib.Core.Bool.{Bool, false, cond, not, _&&_, _||_}
 use mathlib.Core.List.{List}
@@ -49,9 +49,9 @@ wrongKeys storage keys = not (eqb (length keys) (framesOf storage))
 unfoldable pub wrongBudget : Numbers → Bool
 wrongBudget n = ltb mostUnits (n .budget)
 
--- 6: time per unit too large
+-- 6: time per unit 0 or too large
 unfoldable pub wrongTime : Numbers → Bool
-wrongTime n = ltb mostTime (n .time)
+wrongTime n = eqb (n .time) 0 || ltb mostTime (n .time)
 
 -- one of the `n` bytes from `a` on is not zero
 unfoldable pub used : List ℕ → ℕ → ℕ → Bool

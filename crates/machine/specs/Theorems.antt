@@ -59,7 +59,7 @@ pub record GoodInput (r storage keys : List ℕ) : Type 0 where
 pub record GoodInputIsAccepted : Type 0 where
   pub byCheck : (r storage keys : List ℕ) → GoodInput r storage keys → checkVerdict r ≡ Accepted
   pub byTranslate : (r storage keys : List ℕ) (kind : ℕ) → GoodInput r storage keys → kind ≤ 2 → translateVerdict r storage keys kind ≡ Accepted
-  pub byRun : (n : Numbers) (r storage keys : List ℕ) → GoodInput r storage keys → n .budget ≤ mostUnits → n .time ≤ mostTime
+  pub byRun : (n : Numbers) (r storage keys : List ℕ) → GoodInput r storage keys → n .budget ≤ mostUnits → 0 < n .time → n .time ≤ mostTime
       → runVerdict n r storage keys ≡ Accepted
 
 -- on a good entry a run with budget 0 uses its budget, and one with a stop request and a budget is stopped

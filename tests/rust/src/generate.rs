@@ -5,6 +5,7 @@
 use crate::model::{self, Answer, FRAME};
 
 pub mod desk;
+pub mod store_clock;
 
 /// splitmix64.
 pub struct Rng(u64);
@@ -110,7 +111,17 @@ pub struct Wishes {
 }
 
 pub fn case(rng: &mut Rng, wishes: Wishes) -> Case {
+    build(Builder::new(rng, wishes.machine), wishes)
+}
+
+/// The same with many an STCK among the instructions.
+pub fn case_with_readings(rng: &mut Rng, wishes: Wishes) -> Case {
     let mut builder = Builder::new(rng, wishes.machine);
+    builder.readings = true;
+    build(builder, wishes)
+}
+
+fn build(mut builder: Builder, wishes: Wishes) -> Case {
     builder.choose_extent(wishes.large_extents);
     builder.lay_host_tables();
     builder.choose_prefix();
@@ -183,6 +194,8 @@ struct Builder<'a> {
     /// Registers that point at a page in the frame of the prefix page, and at the host page entry of the prefix page.
     twin: Option<usize>,
     prefix_entry: Option<usize>,
+    /// Many instructions are STCK.
+    readings: bool,
 }
 
 const CR: usize = 72;
@@ -221,7 +234,7 @@ impl<'a> Builder<'a> {
                 keys: vec![0; frames as usize],
                 designation: 0,
                 clock: 0,
-                time: 0,
+                time: 1,
                 budget: 0,
                 addresses: Vec::new(),
             },
@@ -250,6 +263,7 @@ impl<'a> Builder<'a> {
             targets: Vec::new(),
             twin: None,
             prefix_entry: None,
+            readings: false,
             rng,
         }
     }
@@ -1116,6 +1130,9 @@ impl<'a> Builder<'a> {
     }
 
     fn instruction(&mut self) -> Vec<u8> {
+        if self.readings && self.rng.percent(35) {
+            return self.rs(0xB2, 0x05, 1).0;
+        }
         if self.system_370() {
             match self.rng.below(100) {
                 0..=7 => return self.at_interval_timer(),
@@ -1328,12 +1345,13 @@ impl<'a> Builder<'a> {
 
     fn choose_time(&mut self) {
         let time = match self.rng.below(100) {
-            0..=4 => 0,
-            5..=24 => 1,
-            25..=54 => self.rng.range(2, 100),
+            0..=21 => 1,
+            22..=26 => 2,
+            27..=54 => self.rng.range(2, 100),
             55..=64 => 4096,
             65..=72 => 1_048_576,
-            _ => self.rng.below(1_048_577),
+            73..=76 => 1_048_575,
+            _ => self.rng.range(1, 1_048_576),
         };
         // With the greatest time the word of the interval timer falls every 13 units or 14.
         let time = if self.system_370() && self.rng.percent(35) { 1_048_576 } else { time };
@@ -1557,7 +1575,7 @@ impl<'a> Builder<'a> {
                 self.damage_larger_record();
                 continue;
             }
-            let kind = self.rng.below(14);
+            let kind = self.rng.below(15);
             self.damage_one(kind);
         }
     }
@@ -1639,7 +1657,7 @@ impl<'a> Builder<'a> {
                 self.case.keys.resize(length, 0);
             }
             5 => self.case.budget = self.rng.pick(&[65_536, 65_537, 0x8000_0000, 0xFFFF_FFFF]),
-            6 => self.case.time = self.rng.pick(&[1_048_577, 0x8000_0000, 0xFFFF_FFFF]),
+            6 => self.case.time = self.rng.pick(&[0, 1_048_577, 0x0020_0000, 0x8000_0000, 0xFFFF_FFFF]),
             7 if length > 71 => {
                 let at = self.rng.range(66, 71) as usize;
                 self.case.record[at] = 1 << self.rng.below(8);
@@ -1665,6 +1683,12 @@ impl<'a> Builder<'a> {
                     self.case.keys.resize(4096, 0);
                 } else {
                     self.case.time = 1_048_576;
+                }
+            }
+            14 => {
+                self.case.time = 0;
+                if self.rng.percent(20) {
+                    self.case.budget = self.rng.pick(&[0, 1, 65_535]);
                 }
             }
             _ => {}

@@ -1,6 +1,6 @@
-//! Check, translate and run, written from document 01 and requests 1/12 and 2/12 of document 02 alone, and byte by
-//! byte. The headings cited are those of document 01. Bit 0 is the leftmost bit. Nothing is kept from one byte to the
-//! next, so that each sentence of the rules stands in one place.
+//! Check, translate and run, written from document 01 and requests 1/12, 2/12 and 5/12 of document 02 alone, and byte
+//! by byte. The headings cited are those of document 01. Bit 0 is the leftmost bit. Nothing is kept from one byte to
+//! the next, so that each sentence of the rules stands in one place.
 
 /// An answer of check, translate or run.
 #[derive(Clone, Copy, PartialEq, Eq, Debug)]
@@ -83,6 +83,20 @@ pub struct Events {
     pub fault_at_word: bool,
     /// The walk of the host fault that ended the run.
     pub walk: Option<Walk>,
+    /// The readings of the clock, in the order of their units.
+    pub readings: Vec<Reading>,
+}
+
+/// A value that an STCK stored. Request 5/12: "any two STCK values in one run differ".
+#[derive(Clone, Copy, PartialEq, Eq, Debug)]
+pub struct Reading {
+    /// The units completed before its own.
+    pub unit: u32,
+    pub value: u64,
+    /// Logical, of the operand's first byte.
+    pub address: u32,
+    /// The host absolute address of each byte.
+    pub places: [u32; 8],
 }
 
 pub const SVC_INTERRUPTION: u8 = 0xFF;
@@ -282,7 +296,8 @@ fn refuse_numbers(budget: u32, time: u32) -> Option<u8> {
     if budget > 65_535 {
         return Some(5);
     }
-    if time > 1_048_576 {
+    // "It becomes 1 to 1,048,576"; "6 also covers 0".
+    if time == 0 || time > 1_048_576 {
         return Some(6);
     }
     None
@@ -680,6 +695,8 @@ struct Unit {
     stores: Vec<(u32, u8)>,
     /// Frames to mark, with whether each was stored into.
     marks: Vec<(usize, bool)>,
+    /// Of STCK.
+    reading: Option<Reading>,
 }
 
 impl Unit {
@@ -872,8 +889,11 @@ fn execute(
             unit.mark(&places, false);
         }
         Operation::StoreClock => {
-            let places = view.operand(address_s(record, text), 8, Access::Store)?;
-            unit.store(&places, &guest_clock(record, clock).to_be_bytes());
+            let address = address_s(record, text);
+            let places = view.operand(address, 8, Access::Store)?;
+            let value = guest_clock(record, clock);
+            unit.store(&places, &value.to_be_bytes());
+            unit.reading = Some(Reading { unit: 0, value, address, places: places.try_into().unwrap() });
             set_condition_code(&mut unit.record, 0);
         }
         Operation::SetCpuTimer => {
@@ -938,6 +958,8 @@ struct Guest<'a> {
     designation: u32,
     clock: u64,
     time: u32,
+    /// The units completed.
+    units: u32,
     events: Events,
 }
 
@@ -954,7 +976,7 @@ impl Guest<'_> {
             return self.intercept(32);
         }
         let before = record.to_vec();
-        let mut unit = Unit { record: before.clone(), stores: Vec::new(), marks: Vec::new() };
+        let mut unit = Unit { record: before.clone(), stores: Vec::new(), marks: Vec::new(), reading: None };
         if psw_is_malformed(record) {
             return self.program_exception(unit, SPECIFICATION, 0, 0, &[]);
         }
@@ -1074,6 +1096,7 @@ impl Guest<'_> {
             }
         };
         self.events.interruptions.extend(interruption.map(|code| (form(self.record), code)));
+        self.events.readings.extend(unit.reading.map(|reading| Reading { unit: self.units, ..reading }));
         self.record.copy_from_slice(&unit.record);
         for (place, byte) in unit.stores {
             self.storage[place as usize] = byte;
@@ -1090,6 +1113,7 @@ impl Guest<'_> {
         if let Some(places) = interval_timer {
             self.lower_word(&places);
         }
+        self.units += 1;
         UnitEnd::Complete
     }
 
@@ -1135,7 +1159,7 @@ fn interval_timer_is_active(record: &[u8]) -> bool {
 }
 
 /// Step 3 of "Before each unit".
-fn psw_is_malformed(record: &[u8]) -> bool {
+pub fn psw_is_malformed(record: &[u8]) -> bool {
     let ones = |first: usize, last: usize| (first..=last).any(|number| psw_bit(record, number));
     match form(record) {
         Form::Bc => return false,
@@ -1220,15 +1244,14 @@ pub fn run(
         record[RESULT_CODE] = 32;
         return Run { answer: Answer::Intercepted(32), units: 0, events };
     }
-    let mut guest = Guest { record, storage, keys, designation, clock, time, events };
-    let mut units = 0;
+    let mut guest = Guest { record, storage, keys, designation, clock, time, units: 0, events };
     loop {
+        let units = guest.units;
         if units == budget {
             return Run { answer: Answer::BudgetUsed, units, events: guest.events };
         }
-        match guest.unit() {
-            UnitEnd::Complete => units += 1,
-            UnitEnd::Exit(answer) => return Run { answer, units, events: guest.events },
+        if let UnitEnd::Exit(answer) = guest.unit() {
+            return Run { answer, units, events: guest.events };
         }
     }
 }

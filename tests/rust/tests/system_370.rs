@@ -606,14 +606,11 @@ fn residue_of_completed_units() {
         case.record[MODE] = 0xF4;
         assert_eq!(residue(&completes(&case)), 12_005);
     }
-    // So do 370-XA mode and time 0.
+    // So does 370-XA mode.
     let mut case = guest(EC, &LR);
     about_to_fall(&mut case, 7);
     let left = completes(&in_xa_mode(&case));
     assert_eq!((residue(&left), word_at_80(&left), left.record[T]), (40_959_999, 7, 0));
-    case.time = 0;
-    let left = completes(&case);
-    assert_eq!((residue(&left), word_at_80(&left)), (40_959_999, 7));
 }
 
 #[test]

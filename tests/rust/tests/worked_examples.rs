@@ -17,7 +17,7 @@ fn setup() -> Case {
     record[15] = 1;
     record[17] = 0x08;
     record[20] = 0x80;
-    Case { record, storage, keys: vec![0; 8], designation: 0x1000, clock: 0, time: 0, budget: 0, addresses: Vec::new() }
+    Case { record, storage, keys: vec![0; 8], designation: 0x1000, clock: 0, time: 1, budget: 0, addresses: Vec::new() }
 }
 
 fn translates(case: &Case, address: u32, answer: Answer) {

@@ -18,5 +18,9 @@ returns-3 : tie.Need-returns-3
 unfolding numbersVerdict wrongBudget wrongTime
 returns-3 c = search tests
 
+returns-4 : tie.Need-returns-4
+unfolding numbersVerdict wrongBudget wrongTime
+returns-4 c = search tests
+
 pub numbers-verdict-spec : {M : Type 1} → statement M
-numbers-verdict-spec = tie.close (tie.spec returns returns-2 returns-3)
+numbers-verdict-spec = tie.close (tie.spec returns returns-2 returns-3 returns-4)

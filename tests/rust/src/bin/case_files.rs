@@ -12,7 +12,10 @@ use std::process::{exit, Command, Stdio};
 use std::time::Instant;
 
 /// Where the record begins: after length, version, designation, clock, time and budget.
+const TIME: usize = 17;
 const RECORD: usize = 23;
+
+const TIME_0: &str = "R 6, time 0";
 
 fn main() {
     let (cases, seed) = report::arguments(2_000);
@@ -42,16 +45,20 @@ fn main() {
                 }
                 exit(1);
             }
-            // Of a refusal the number too.
-            let length = if owed.starts_with('R') { 3 } else { 1 };
-            *kinds.entry(owed[..length].to_string()).or_default() += 1;
+            // Of a refusal the number too, and which of the times it is.
+            let kind = match owed.as_str() {
+                "R 6" if model::word(&file, TIME) == 0 => TIME_0,
+                refusal if refusal.starts_with('R') => refusal,
+                other => &other[..1],
+            };
+            *kinds.entry(kind.to_string()).or_default() += 1;
         }
     }
     for (kind, count) in &kinds {
         print!("{kind}: {count}; ");
     }
     println!("{:.1} seconds", start.elapsed().as_secs_f64());
-    for kind in ["R 1", "R 2", "R 6", "R 7", "R 9", "I", "H", "B"] {
+    for kind in ["R 1", "R 2", "R 6", TIME_0, "R 7", "R 9", "I", "H", "B"] {
         if !kinds.contains_key(kind) && cases >= 2_000 {
             println!("never occurred: {kind}");
             exit(1);
@@ -84,7 +91,7 @@ fn mend_length(file: &mut [u8]) {
 /// Spoils a file.
 fn damage(rng: &mut Rng, file: &mut Vec<u8>) {
     let size = if file[RECORD..].starts_with(&[0, 208]) { 208 } else { 200 };
-    match rng.below(9) {
+    match rng.below(10) {
         0 => {
             let near = [0, 3, 4, 5, RECORD, RECORD + 1, RECORD + 2, 223, 224, 231, 232];
             let length = if rng.percent(50) { rng.pick(&near) } else { rng.below(file.len() as u32) as usize };
@@ -109,6 +116,7 @@ fn damage(rng: &mut Rng, file: &mut Vec<u8>) {
         }
         6 => file[RECORD + 2] = rng.pick(&[0, 1, 2, 3]),
         7 => file[RECORD + 1] = (408 - size) as u8,
+        8 => model::set_word(file, TIME, rng.pick(&[0, 0, 1, 1_048_576, 1_048_577])),
         _ => {
             // The other size, with a frame count where it is then looked for, and as many bytes.
             let other = 408 - size;

@@ -78,9 +78,6 @@ fn is_whole(case: &Case) -> bool {
 
 /// Sets the CPU timer to reach zero, or one beside it, after some units, and lets it be seen.
 fn aim_timer(rng: &mut Rng, case: &mut Case) {
-    if case.time == 0 {
-        case.time = 1;
-    }
     let units = rng.below(case.budget.min(12) + 1) as u64;
     let timer = (units * case.time as u64).wrapping_add(rng.below(3) as u64).wrapping_sub(1);
     model::set_doubleword(&mut case.record, 24, timer);

@@ -124,7 +124,7 @@ impl<'a> Desk<'a> {
             rng.fill(&mut storage);
         }
         let (keys, record, addresses) = (vec![0; frames as usize], Vec::new(), Vec::new());
-        let case = Case { record, storage, keys, designation: 0, clock: 0, time: 0, budget: 0, addresses };
+        let case = Case { record, storage, keys, designation: 0, clock: 0, time: 1, budget: 0, addresses };
         let mut desk = Desk {
             rng,
             shape,
@@ -539,7 +539,8 @@ impl<'a> Desk<'a> {
             model::set_word(&mut self.case.record, 136 + 4 * register, address);
         }
         self.case.clock = self.rng.next();
-        self.case.time = self.rng.below(1000);
+        // Few of the runs are refused.
+        self.case.time = if self.rng.percent(2) { 0 } else { self.rng.range(1, 1000) };
         self.case.budget = self.rng.range(1, 30);
     }
 
