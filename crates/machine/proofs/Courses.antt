@@ -5,7 +5,6 @@ use native.Mathlib.Omega.{arith}
 use native.Mathlib.Nat.{mul-le-mul-right, mul-lt-mul-of-pos-right}
 use mathlib.Core.Path.{_≡_, refl, ap, _∙_}
 use mathlib.Core.List.{List, [], _∷_}
-use mathlib.Core.Logic.{inl, inr}
 use Rattle.machine.specs.declared.Guest.{Guest}
 use Rattle.machine.specs.declared.Numbers.{Numbers}
 use Rattle.machine.specs.Record.{guestOf}
@@ -13,9 +12,8 @@ use Rattle.machine.specs.Operations.{Result, resultOf, machineOf, runOf}
 use Rattle.machine.specs.Theorems.{withBudget, resumedWith}
 use Rattle.machine.specs.Readings.{StoresClock, beforeUnit}
 use Rattle.machine.specs.Courses.{Stretch, unitsIn, unitsOf, lasts, lastsInAll, Course, over, then, StoresIn, inFirst, inRest, ReadingsOfACourseDiffer, inAll, cut, ReadingsOfACutRunDiffer}
-use Rattle.machine.proofs.Laws.{guest-of-bytes}
 use Rattle.machine.proofs.Runs.{units-within, runOf-cases}
-use Rattle.machine.proofs.Kept.{bytes-kept}
+use Rattle.machine.proofs.Kept.{guest-left}
 use Rattle.machine.proofs.Readings.{reading-of-run, short, apart}
 
 -- a value is that of the clock so far after the course's start
@@ -110,11 +108,6 @@ unfolding resultOf
 units-few n r storage keys =
     runOf-cases n r storage keys (λ (result : Result). unitsIn (result .answer) ≤ n .budget) (λ number refused. omega arith) (λ accepted bad. omega arith)
     (λ accepted good. units-within (n .budget) n (machineOf n r storage keys))
-
--- a run keeps the guest
-guest-left : (n : Numbers) (r storage keys : List ℕ) → guestOf ((runOf n r storage keys) .description) ≡ guestOf r
-guest-left n r storage keys =
-    guest-of-bytes _ r (λ i l h. bytes-kept n r storage keys i (inl h)) (λ i l h. bytes-kept n r storage keys i (inr (inl (omega arith))))
 
 -- the first of its runs, what that leaves, and the numbers of the next
 module _ (n : Numbers) (b : ℕ) (r storage keys : List ℕ) where

@@ -23,7 +23,7 @@ use Rattle.machine.specs.Run.{Machine, unitFrom, behindOf, markedBy, aft
 use Rattle.machine.specs.Operations.{Result, resultOf, machineOf, runOf}
 use Rattle.machine.specs.Answers.{endResults}
 use Rattle.machine.specs.Theorems.{LengthsKept, BytesKept, MarksAreTheUnits, UnitsWithinBudget}
-use Rattle.machine.proofs.Laws.{length-withCpu, length-withResults, length-withRequest, length-withInterval, byte-of-withCpu, byte-of-withResults, byte-of-withRequest, byte-of-withInterval, guest-of-withCpu, guest-of-withResults, length-endResults}
+use Rattle.machine.proofs.Laws.{length-withCpu, length-withResults, length-withRequest, length-withInterval, byte-of-withCpu, byte-of-withResults, byte-of-withRequest, byte-of-withInterval, guest-of-bytes, guest-of-withCpu, guest-of-withResults, length-endResults}
 use Rattle.machine.proofs.Ticks.{Update, still, rises, fell, update-keeps, answered-same, requested-active, InRange, update-in-range, residue-of-withCpu, residue-of-withRequest, residue-of-withResults}
 use Rattle.machine.proofs.Runs.{stored-length, markedBy-length, exit-keeps, step-cases, left-by, run-keeps-steps, run-keeps, units-within, runOf-cases}
 use Rattle.machine.proofs.Timer.{asked-for}
@@ -144,6 +144,11 @@ bytes-kept n r storage keys i =
     (⊎-elim (λ b. beside-kept i (inr (inl b)) n r storage keys)
     (⊎-elim (λ b. beside-kept i (inr (inr (inl b))) n r storage keys)
     (⊎-elim (λ b. beside-kept i (inr (inr (inr b))) n r storage keys) (λ b. untimed-kept n r (b .0) i (b .1) storage keys))))
+
+-- a run keeps the guest
+pub guest-left : (n : Numbers) (r storage keys : List ℕ) → guestOf ((runOf n r storage keys) .description) ≡ guestOf r
+guest-left n r storage keys =
+    guest-of-bytes _ r (λ i l h. bytes-kept n r storage keys i (inl h)) (λ i l h. bytes-kept n r storage keys i (inr (inl (omega arith))))
 
 -- a run leaves a residue in range where it found one
 module _ (n : Numbers) (short : n .time ≤ mostTime) where

@@ -24,11 +24,11 @@ use Rattle.machine.specs.Run.{Machine, Ended as Run, hostOf, unitFrom, b
 use Rattle.machine.specs.Operations.{Result, resultOf, machineOf, runAs, runOf}
 use Rattle.machine.specs.Answers.{endResults}
 use Rattle.machine.specs.Theorems.{withBudget, resumedWith, resumedFrom, Resumption, HostFaultUndoesItsUnit}
-use Rattle.machine.proofs.Laws.{guest-of-bytes, length-endResults, withResults-withCpu, withResults-withResults, withResults-withRequest, withResults-withInterval}
+use Rattle.machine.proofs.Laws.{length-endResults, withResults-withCpu, withResults-withResults, withResults-withRequest, withResults-withInterval}
 use Rattle.machine.proofs.Verdicts.{accepted-budget, accepted-time, accepted-residue, SameInterval, verdict-of-same, verdict-of-budget}
 use Rattle.machine.proofs.Ticks.{update-keeps}
 use Rattle.machine.proofs.Runs.{exit-keeps, step-cases, run-keeps, units-within, continued, run-add, runOf-cases}
-use Rattle.machine.proofs.Kept.{lengths-kept, bytes-kept, residue-in-range}
+use Rattle.machine.proofs.Kept.{lengths-kept, bytes-kept, guest-left, residue-in-range}
 
 -- a run goes by designation and time alone, beside its machine and its budget
 abbrev renumbered : Numbers → ℕ → ℕ → Numbers
@@ -150,10 +150,7 @@ module _ (n : Numbers) (a b : ℕ) (r storage keys : List ℕ) (small : n .clock
   good-again : entryGood (guestOf (first .description)) ≡ true
   unfolding first
   good-again =
-      ap entryGood
-      (guest-of-bytes _ r (λ i l h. bytes-kept (withBudget n a) r storage keys i (inl h))
-      (λ i l h. bytes-kept (withBudget n a) r storage keys i (inr (inl (omega arith)))))
-      ∙ good
+      ap entryGood (guest-left (withBudget n a) r storage keys) ∙ good
 
   -- the resumed run starts from the machine that the first reached, where that used its budget
   second-start : (run a n start) .end ≡ BudgetUsed
