@@ -1,6 +1,6 @@
 #!/bin/sh
-# Machine instructions a call of translate, check and the page desk, and a unit of run, counted by callgrind: repeatable, whatever
-# else the machine does. Needs valgrind and the static library.
+# Machine instructions a call of translate, check and the page desk, and a unit of run (in the rows "call" a call of it), counted
+# by callgrind: repeatable, whatever else the machine does. Needs valgrind and the static library.
 set -eu
 . "$(dirname "$0")/../tools/plain.sh"
 cd "$(dirname "$0")"
@@ -36,10 +36,14 @@ for name in 'DAT off, fetch' 'DAT on, fetch' 'DAT on, store' 'DAT on, two host s
     counted bench_translate "$name" 8
     counted bench_translate "$name" 4096
 done
-for name in AR+BC AR+BC,DAT L+AR+ST+LA+BC L+AR+ST+LA+BC,DAT SVC SVC,DAT AR+BC,System/370-BC AR+BC,System/370-EC \
-    SVC,System/370-BC SVC,System/370-EC AR+BC,System/370-BC,falls; do
-    counted bench_run "$name" 8
-    counted bench_run "$name" 4096
+"$OUT/bench_run" check
+"$OUT/bench_run" names | while read -r name; do
+    case $name in
+    call,*) calls=1000 ;;
+    *) calls=10000 ;;
+    esac
+    counted bench_run "$name" 8 "$calls"
+    counted bench_run "$name" 4096 "$calls"
 done
 printf '%-30s %6s %10s %10s\n' case pages drevokas plain
 for name in list add remove protect 'first unbacked'; do

@@ -249,7 +249,7 @@ def record():
 # The crates, from crates.txt. Layers, with a place in each layer that a long line passes.
 
 CALLERS = "C programs"
-NO_CODE = {"machine", "desk", "laws", "witnesses"}
+NO_CODE = {"machine", "desk", "laws", "witnesses", "blocks", "steps", "remaining"}
 ROW, BOX, TALL = 64, 108, 32
 
 

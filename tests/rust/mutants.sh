@@ -2,9 +2,9 @@
 # Mutates the model in many small ways and checks that `compare`, with its default cases and seed, finds each; those of requests
 # 1/12 and 2/12 must be found by tests/system_370.rs and tests/which_table.rs too. Those of the desk's model must be found by
 # `desk_calls` and by tests/desk.rs, those of the first unbacked page by `first_unbacked` and by tests/first_unbacked.rs, those of
-# request 5/12 by `store_clock` and by tests/store_clock.rs. Not in the gate. Takes some minutes. With arguments: only the mutants
-# whose names contain one of these words; the names of the desk's begin with "desk:", those of the first unbacked page's with
-# "unbacked:", those of request 5/12 with "clock:".
+# request 5/12 by `store_clock` and by tests/store_clock.rs, those of many units at a time by `laps`. Not in the gate. Takes some
+# minutes. With arguments: only the mutants whose names contain one of these words; the names of the desk's begin with "desk:",
+# those of the first unbacked page's with "unbacked:", those of request 5/12 with "clock:", those of many units with "laps:".
 set -u
 . "$(dirname "$0")/../../tools/plain.sh"
 package=$(cd "$(dirname "$0")" && pwd)
@@ -27,16 +27,19 @@ module=model
 comparison=compare
 suite=system_370
 
+# Whether the mutant is one of those asked for.
+is_wanted() {
+    [ -n "$wanted" ] || return 0
+    for part in $wanted; do
+        case "$1" in *"$part"*) return 0 ;; esac
+    done
+    return 1
+}
+
 # mutant NAME SED-SCRIPT [PROGRAM]: must be found by the comparison, or by PROGRAM, which is compare (the comparison), tests or
 # both.
 mutant() {
-    if [ -n "$wanted" ]; then
-        found=no
-        for part in $wanted; do
-            case "$1" in *"$part"*) found=yes ;; esac
-        done
-        [ $found = yes ] || return
-    fi
+    is_wanted "$1" || return
     total=$((total + 1))
     cp "$scratch/model.rs" "$scratch/desk.rs" src/
     sed -E "$2" "$scratch/$module.rs" >"src/$module.rs"
@@ -76,6 +79,21 @@ mutant() {
     fi
     echo "caught  $1 ($found)"
     caught=$((caught + 1))
+}
+
+# equivalent NAME SED-SCRIPT: changes how the model works and not what it does, so the comparison must find nothing.
+equivalent() {
+    is_wanted "$1" || return
+    total=$((total + 1))
+    cp "$scratch/model.rs" "$scratch/desk.rs" src/
+    sed -E "$2" "$scratch/$module.rs" >"src/$module.rs"
+    if cargo build --release --offline --quiet --bin "$comparison" >"$scratch/build" 2>&1 && "target/release/$comparison" >"$scratch/output" 2>&1; then
+        echo "alike   $1"
+        caught=$((caught + 1))
+    else
+        echo "MISSED  $1: does not build, or differs"
+        missed=$((missed + 1))
+    fi
 }
 
 # Before each unit.
@@ -639,6 +657,70 @@ mutant "clock: last bit stored as one" 's/let value = guest_clock\(record, clock
 mutant "clock: an interception is a unit" '/^pub fn run\(/,/^}/ s/return Run \{ answer, units, /return Run { answer, units: units + matches!(answer, Answer::Intercepted(_)) as u32, /' both
 mutant "clock: a host fault is a unit" '/^pub fn run\(/,/^}/ s/return Run \{ answer, units, /return Run { answer, units: units + matches!(answer, Answer::HostFault(..)) as u32, /' both
 mutant "clock: stored up to a page that fails" '/Operation::StoreClock =>/,/^        }/ s/^            let places = view/            for offset in 0..8 {\n                match view.access(address.wrapping_add(offset), Access::Store) {\n                    Ok(place) => unit.store(\&[place], \&[guest_clock(record, clock).to_be_bytes()[offset as usize]]),\n                    Err(_) => break,\n                }\n            }\n&/; s/unit\.stores\.clear\(\);//' both
+
+# Many units at a time: the plain instructions.
+comparison=laps
+mutant "laps: code of a difference that overflows by its sign" 's/return \(result, 3, true\)/return (result, if !subtract { 3 } else if (result as i32) < 0 { 1 } else { 2 }, true)/'
+mutant "laps: code of a sum that overflows to zero is 0" 's/return \(result, 3, true\)/return (result, if result == 0 { 0 } else { 3 }, true)/'
+mutant "laps: the least word's difference does not overflow" 's/if exact != result as i32 as i64 \{/if exact != result as i32 as i64 \&\& !(subtract \&\& exact == 1 << 31) {/'
+mutant "laps: mask bits from the right" 's/first as u8 & \(8 >> condition_code\(record\)\)/first as u8 \& (1 << condition_code(record))/'
+mutant "laps: BC PSW with addresses of 31 bits" 's/if psw_bit\(record, 32\) && !system_370\(record\)/if psw_bit(record, 32) \&\& !system_370(record) || form(record) == Form::Bc \&\& address >> 24 == 1/'
+mutant "laps: no wrap from the last block to the first" '/^fn wrap/,/^}/ s/^    if /    if address == 0x0100_0000 { return address; }\n&/'
+mutant "laps: LA without its index in 24-bit mode" '/Operation::LoadAddress =>/,/^        }/ s/address_rx\(record, text\)/if psw_bit(record, 32) { address_rx(record, text) } else { address_s(record, text) }/'
+mutant "laps: code of the last sum kept over LPSW" '/Operation::LoadPsw => \{$/,/^        }/ s/^            set_doubleword\(.*/let code = condition_code(record);\n&\nset_condition_code(\&mut unit.record, code);/'
+mutant "laps: code of the last sum in the old PSW of SVC is 0" 's/Operation::SupervisorCall => return Ok/Operation::SupervisorCall => { set_condition_code(\&mut unit.record, 0); return Ok/; s/SupervisorCall \{ number: text\[1\] \}\),/SupervisorCall { number: text[1] }); }/'
+last_target='s/^pub fn run\(/thread_local! { static TARGETS: std::cell::RefCell<std::collections::BTreeMap<u32, u32>> = const { std::cell::RefCell::new(std::collections::BTreeMap::new()) }; }\nfn last_target(record: \&[u8], now: u32) -> u32 { TARGETS.with(|targets| *targets.borrow_mut().entry(instruction_address(record)).or_insert(now)) }\n&/; s/^    record\[RESULT_CODE\.\.66\]\.fill\(0\);/&\nTARGETS.with(|targets| targets.borrow_mut().clear());/'
+mutant "laps: BCR goes where it went" "$last_target"'; s/set_instruction_address\(&mut unit\.record, general_register\(record, second\)\)/set_instruction_address(\&mut unit.record, last_target(record, general_register(record, second)))/'
+mutant "laps: BC goes where it went" "$last_target"'; /Operation::BranchOnCondition =>/,/^        }/ s/address_rx\(record, text\)/last_target(record, address_rx(record, text))/'
+
+# Timers, and what is charged.
+mutant "laps: comparator due when equal" 's/self\.clock\) > comparator/self.clock) >= comparator/'
+mutant "laps: timers looked at in every second unit" 's/^        let external = psw_bit\(record, 7\);/let external = psw_bit(record, 7) \&\& self.units % 2 == 0;/'
+mutant "laps: timers not looked at from unit 16 on until an SVC" 's/^        let external = psw_bit\(record, 7\);/let external = psw_bit(record, 7) \&\& (self.units < 16 || !self.events.interruptions.is_empty());/'
+mutant "laps: CPU timer charged once too often" '/fn complete\(/,/^    }/ s/TIMER\)\.wrapping_sub\(self\.time as u64\)/TIMER).wrapping_sub(self.time as u64 * (1 + (self.units == 20) as u64))/'
+mutant "laps: clock charged once too seldom" '/fn complete\(/,/^    }/ s/self\.clock\.wrapping_add\(self\.time as u64\)/self.clock.wrapping_add(self.time as u64 * (self.units != 20) as u64)/'
+mutant "laps: residue charged twice" 's/RESIDUE\) \+ 3 \* self\.time/RESIDUE) + 3 * self.time * (1 + (self.units == 20) as u32)/'
+mutant "laps: word falls above 40,960,000 alone" 's/if residue < RESIDUE_LIMIT/if residue <= RESIDUE_LIMIT/'
+mutant "laps: SPT leaves the timer's unit out" 's/set_doubleword\(&mut unit\.record, TIMER, doubleword\(&view\.fetch\(&places\), 0\)\)/set_doubleword(\&mut unit.record, TIMER, doubleword(\&view.fetch(\&places), 0).wrapping_add(1))/'
+
+# Marks and protection.
+mutant "laps: ST does not set the change bit" '/Operation::Store =>/,/^        }/ s/unit\.store\(&places, &general_register\(record, first\)\.to_be_bytes\(\)\)/unit.store(\&places, \&general_register(record, first).to_be_bytes()); unit.marks.iter_mut().for_each(|mark| mark.1 = false)/'
+mutant "laps: L marks the first byte's frame alone" '/Operation::Load =>/,/^        }/ s/unit\.mark\(&places, false\)/unit.mark(\&places[..1], false)/'
+mutant "laps: low-address protection not in an operand's second block" 's/places\.push\(self\.access\(address\.wrapping_add\(offset\), access\)\?\)/let mut record = self.record.to_vec(); if address % 2048 + offset >= 2048 { record[CONTROL_REGISTERS] \&= !0x10; } places.push(View { record: \&record, ..*self }.access(address.wrapping_add(offset), access)?)/'
+mutant "laps: fetch protection of texts alone" 's/access == Access::Store \|\| storage_key & 0x08 != 0/access == Access::Store || storage_key \& 0x08 != 0 \&\& logical \& !7 == instruction_address(self.record) \& !7/'
+
+# What a unit stores is seen one unit late.
+late='s/^pub fn run\(/thread_local! { static LATE: std::cell::RefCell<Vec<(u32, u8)>> = const { std::cell::RefCell::new(Vec::new()) }; }\nfn earlier(storage: \&[u8], place: u32) -> u8 { LATE.with(|late| late.borrow().iter().find(|entry| entry.0 == place).map_or(storage[place as usize], |entry| entry.1)) }\n&/; s/^    record\[RESULT_CODE\.\.66\]\.fill\(0\);/&\nLATE.with(|late| late.borrow_mut().clear());/; s/^    let view = View \{ record, storage, keys, designation \};/LATE.with(|late| late.borrow_mut().clear());\n&/; s/^        self\.record\.copy_from_slice\(&unit\.record\);/&\nLATE.with(|late| *late.borrow_mut() = unit.stores.iter().map(|\&(place, _)| (place, self.storage[place as usize])).collect());/'
+late_word='word(\&[0, 1, 2, 3].map(|n| earlier(self.storage, AT + n)), 0)'
+mutant "laps: store into text seen one unit late" "$late"'; s/text\.extend\(view\.fetch\(&places\)\)/text.extend(places.iter().map(|\&place| earlier(view.storage, place)))/'
+mutant "laps: store into an operand seen one unit late" "$late"'; /Operation::Load =>/,/^        }/ s/word\(&view\.fetch\(&places\), 0\)/word(\&places.iter().map(|\&place| earlier(view.storage, place)).collect::<Vec<u8>>(), 0)/'
+mutant "laps: store into a host table seen one unit late" "$late; s/Ok\\(word\\(self\\.storage, address as usize\\)\\)/Ok($(echo "$late_word" | sed 's/AT/address/'))/"
+mutant "laps: store into a guest table seen one unit late" "$late; s/Ok\\(word\\(self\\.storage, absolute as usize\\)\\)/Ok($(echo "$late_word" | sed 's/AT/absolute/'))/"
+
+# The model keeps the translations of blocks, which changes nothing; each mutant keeps one where it must not.
+kept='s/^pub fn run\(/#[derive(Default)]\nstruct Kept { blocks: std::collections::BTreeMap<(bool, u32), (u32, u32)>, named: std::collections::BTreeSet<u32>, quick: bool }\nthread_local! { static KEPT: std::cell::RefCell<Kept> = std::cell::RefCell::new(Kept::default()); }\n&/'
+kept="$kept"'; s/^    record\[RESULT_CODE\.\.66\]\.fill\(0\);/&\nKEPT.with(|kept| *kept.borrow_mut() = Kept::default());/; s/^    let view = View \{ record, storage, keys, designation \};/KEPT.with(|kept| *kept.borrow_mut() = Kept::default());\n&/'
+kept="$kept"'; s/^        let \(real, guest_protected\) = self\.guest_translate\(logical\)\?;/let store = access == Access::Store;\nlet entry = (store, logical \/ 2048 % 8);\nif let Some((first, place)) = KEPT.with(|kept| kept.borrow().blocks.get(\&entry).copied()) {\nif first == logical \/ 2048 * 2048 {\nKEPT.with(|kept| kept.borrow_mut().quick |= store);\nreturn Ok(place + logical % 2048);\n}\n}\n&/'
+kept="$kept"'; /fn access\(/,/^    }/ s/^        Ok\(absolute\)/let marks = if store { 0x06 } else { 0x04 };\nlet named = KEPT.with(|kept| kept.borrow().named.contains(\&(absolute \/ 4096)));\nif storage_key \& marks == marks \&\& !(store \&\& named) {\nKEPT.with(|kept| kept.borrow_mut().blocks.insert(entry, (logical \/ 2048 * 2048, absolute \/ 2048 * 2048)));\n}\n&/'
+kept="$kept"'; s/^        table\.entry = Some\(address\);/KEPT.with(|kept| kept.borrow_mut().named.insert(address \/ 4096));\n&/; s/^                table\.entry = Some\(real\);/KEPT.with(|kept| kept.borrow_mut().named.insert(absolute \/ 4096));\n&/'
+kept="$kept"'; s/^        self\.record\.copy_from_slice\(&unit\.record\);/let old = \&*self.record;\nlet new = \&unit.record;\nlet dat = old[PSW] \& 0x04 != new[PSW] \& 0x04;\nlet key = old[PSW + 1] >> 4 != new[PSW + 1] >> 4;\nlet cr0 = old[72..76] != new[72..76];\nlet cr1 = old[76..80] != new[76..80];\nlet places = unit.stores.iter().map(|store| store.0).chain(interval_timer.iter().flatten().copied());\nlet mut frames: Vec<u32> = places.map(|place| place \/ 4096).collect();\nlet quick = KEPT.with(|kept| std::mem::take(\&mut kept.borrow_mut().quick));\nlet stored = KEPT.with(|kept| frames.drain(..).any(|frame| kept.borrow().named.contains(\&frame)));\nif dat || key || cr0 || cr1 || stored {\nKEPT.with(|kept| *kept.borrow_mut() = Kept::default());\n}\nlet _ = quick;\n&/'
+equivalent "laps: blocks kept" "$kept"
+mutant "laps: block kept over a change of DAT" "$kept"'; s/if dat \|\| key/if key/'
+mutant "laps: block kept over a change of the key" "$kept"'; s/dat \|\| key \|\| cr0/dat || cr0/'
+mutant "laps: block kept over a change of CR0" "$kept"'; s/key \|\| cr0 \|\| cr1/key || cr1/'
+mutant "laps: block kept over a change of CR1" "$kept"'; s/cr0 \|\| cr1 \|\| stored/cr0 || stored/'
+mutant "laps: block kept over a store into a guest table" "$kept"'; s/named\.insert\(absolute \/ 4096\)/named.contains(\&absolute)/'
+mutant "laps: block kept over a store into a host table" "$kept"'; s/named\.insert\(address \/ 4096\)/named.contains(\&address)/'
+mutant "laps: block kept over a store by an interruption" "$kept"'; s/cr1 \|\| stored \{/cr1 || stored \&\& interruption.is_none() {/'
+mutant "laps: block kept over a fall of the interval timer's word in a table" "$kept"'; s/\.chain\(interval_timer\.iter\(\)\.flatten\(\)\.copied\(\)\)//'
+mutant "laps: frames from 64 on not guarded" "$kept"'; s/contains\(&frame\)/contains(\&frame) \&\& frame < 64/'
+mutant "laps: store block kept whose frame a later block is translated by" "$kept"'; s/cr1 \|\| stored \{/cr1 || stored \&\& !quick {/'
+mutant "laps: store block kept in a frame that is guarded" "$kept"'; s/cr1 \|\| stored \{/cr1 || stored \&\& !quick {/; s/ && !\(store && named\)//'
+mutant "laps: fetch block taken for stores" "$kept"'; s/let entry = \(store, logical/let entry = (false, logical/'
+mutant "laps: block taken by its entry alone" "$kept"'; s/if first == logical \/ 2048 \* 2048 \{/if first != 1 {/'
+mutant "laps: block taken by 15 bits of its address" "$kept"'; s/if first == logical \/ 2048 \* 2048 \{/if (first ^ logical) \& 0x7800 == 0 {/'
+mutant "laps: low-address protection lost in a kept block" "$kept"'; s/^        if access == Access::Store && logical <= 511 /        if access == Access::Store \&\& logical <= 511 \&\& !KEPT.with(|kept| kept.borrow().blocks.get(\&(true, 0)).is_some_and(|block| block.0 == 0)) /'
+mutant "laps: block kept without its marks, which are not made" "$kept"'; s/^        for \(frame, stored\) in unit\.marks \{/unit.marks.retain(|\&(frame, stored)| !KEPT.with(|kept| kept.borrow().blocks.iter().any(|(entry, block)| entry.0 == stored \&\& block.1 as usize \/ FRAME == frame)));\n&/; s/if storage_key & marks == marks && /if /'
 
 echo "mutants: $total, caught $caught, missed $missed"
 [ $missed -eq 0 ] && [ $total -gt 0 ]

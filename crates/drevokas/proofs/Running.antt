@@ -35,7 +35,7 @@ use Rattle.machine.proofs.Entry.{entry-version}
 use Rattle.machine.proofs.Verdicts.{accepted-test, keys-of-right, accepted-length, accepted-version, accepted-residue}
 use Rattle.laws.proofs.Lens.{withCpu-cpuOf}
 use Rattle.entry.proofs.Parts.{long-record}
-use Rattle.streaks.specs.Remaining.{plainAt, recordAt, machineAt, OfGuest}
+use Rattle.remaining.specs.Remaining.{plainAt, recordAt, machineAt, OfGuest}
 use Rattle.run.specs.declared.Ended.{Ended}
 use Rattle.run.specs.Running.{Ends}
 use Rattle.packing.specs.Packing.{packedAnswer, placeAfterRun}

@@ -12,12 +12,11 @@ use borrow.Author.Tests.{ltb-true, leb-true, le-ltb, eqb-true, eqb-false}
 use Rattle.machine.specs.declared.Cpu.{Cpu}
 use Rattle.machine.specs.declared.Failure.{Failure}
 use Rattle.machine.specs.declared.Guest.{Guest}
-use Rattle.machine.specs.declared.Psw.{Psw}
 use Rattle.machine.specs.declared.TableEntry.{TableEntry}
 use Rattle.machine.specs.declared.TableEntry.the-variants.{Word, Unread}
 use Rattle.machine.specs.declared.Walk.{Walk}
 use Rattle.machine.specs.declared.Walk.the-variants.{Page, Failed}
-use Rattle.machine.specs.Words.{bit, wordAt}
+use Rattle.machine.specs.Words.{wordAt}
 use Rattle.machine.specs.Sizes.{pageBytes}
 use Rattle.machine.specs.Entry.{extentBytes}
 use Rattle.machine.specs.Psw.{datOn, control}
@@ -30,7 +29,7 @@ use Rattle.machine.proofs.Backing.{same-test}
 use Rattle.laws.proofs.Pages.{prefixed-keeps-offset, backing-in-storage}
 use Rattle.storage.specs.Steps.{readThrough, tableLeads, segmentLeads}
 use Rattle.storage.proofs.Steps.{walk-in-steps}
-use Rattle.address.specs.Touching.{seen, entryBehind, touched, touchOf}
+use Rattle.address.specs.Touching.{entryBehind, touched, touchOf}
 use Rattle.address.specs.declared.Place.the-variants.{Denied}
 use Rattle.address.proofs.Touches.{guest-entry-behind, touched-is}
 use Rattle.guard.specs.Guarding.{Names, Wider, Alike}
@@ -200,11 +199,6 @@ abbrev PageAlike : List ℕ → Guest → ℕ → List ℕ → ℕ → Walk → 
 PageAlike guard g d s a (Failed f) = Unit {0}
 PageAlike guard g d s a (Page frame protected) =
     prefixed g (frame * pageBytes + a % pageBytes) < extentBytes g → HostAlike guard d s (hostVirtual g (prefixed g (frame * pageBytes + a % pageBytes)))
-
--- DAT is on in a 370-XA guest by bit 5 alone. The control registers play no part.
-pub dat-by-bit : (psw : Psw) (on : Bool) → psw .system370 ≡ false → bit 32 5 (psw .left) ≡ on → datOn (seen psw (record { words = [] })) ≡ on
-dat-by-bit psw true xa here = rw (here, xa)
-dat-by-bit psw false xa here = rw here
 
 module _ (guard : List ℕ) (g : Guest) (d : ℕ) (s : List ℕ) (c : Cpu) (a : ℕ) where
   -- where no entry is read

@@ -1,11 +1,12 @@
-// The frames that decide a translation of a 370-XA guest, named in a guard: while storage stays alike in them, the translation stays
-// what it is.
+// The frames that decide a translation, named in a guard: while storage stays alike in them, the translation stays what it is.
 ghost use mathlib.Core.Path.{_≡_};
-ghost use mathlib.Core.Bool.{Bool, false};
+ghost use mathlib.Core.Bool.{Bool};
 ghost use mathlib.Core.List.{List};
 ghost use Prim.Native.Nat.{ℕ, _*_, _%_, _<_};
 ghost use lib.ListN.{length, set};
+ghost use Rattle.machine.specs.declared.Cpu.{Cpu};
 ghost use Rattle.machine.specs.Failures.{walkException};
+ghost use Rattle.machine.specs.Psw.{datOn};
 ghost use Rattle.machine.specs.Walk.{pageIndex, walkPage};
 ghost use Rattle.machine.specs.Host.{host, hostPage, view};
 ghost use Rattle.machine.specs.Addresses.{prefixed, guestEntry, realPage};
@@ -173,6 +174,19 @@ fn name_through(
     }
 }
 
+// DAT is on: bit 5, but not in a BC PSW.
+fn dat_on(psw: Psw) -> bool
+    ensures { λ r. ⌜ ((c : Cpu) → c .psw ≡ psw → r ≡ datOn c) ⌝ }
+{
+    let bit = psw.left / 67108864 % 2 == 1;
+    if psw.system370 {
+        if psw.left / 524288 % 2 != 1 {
+            return false;
+        }
+    }
+    bit
+}
+
 // Names the frames of the guest's table entries for a logical address, and gives its real page, whatever the keys are.
 fn name_tables(
     storage: &[u8],
@@ -183,13 +197,13 @@ fn name_tables(
     control: Registers,
     a: u32,
 ) -> Walk
-    requires { ⌜ (length (now guard) ≡ 64) × Entered guest × (psw .system370 ≡ false) ⌝ }
+    requires { ⌜ (length (now guard) ≡ 64) × Entered guest ⌝ }
     ensures { λ _. ⌜ Wider (now (guard .entry)) (now (guard .exit)) ⌝ }
     ensures { λ _. ⌜ ((t k : List ℕ) → Alike (now (guard .exit)) (now (storage .entry)) t
         → realPage guest (view guest (host designation t k)) (seen psw control) a ≡ realPage guest (view guest (host designation (now (storage .entry)) k)) (seen psw control) a) ⌝ }
     ensures { λ r. ⌜ ((k : List ℕ) → r ≡ realPage guest (view guest (host designation (now (storage .entry)) k)) (seen psw control) a) ⌝ }
 {
-    if psw.left / 67108864 % 2 != 1 {
+    if !dat_on(psw) {
         return Walk::Page {
             frame: a / 4096,
             protected: false,
@@ -221,7 +235,7 @@ pub fn name_access(
     control: Registers,
     a: u32,
 )
-    requires { ⌜ (length (now guard) ≡ 64) × Entered guest × (psw .system370 ≡ false) ⌝ }
+    requires { ⌜ (length (now guard) ≡ 64) × Entered guest ⌝ }
     ensures { λ _. ⌜ Wider (now (guard .entry)) (now (guard .exit)) ⌝ }
     ensures { λ _. ⌜ ((t k : List ℕ) (store : Bool) → Alike (now (guard .exit)) (now (storage .entry)) t
         → touchOf guest (host designation t k) (seen psw control) store a ≡ touchOf guest (host designation (now (storage .entry)) k) (seen psw control) store a) ⌝ }

@@ -1,4 +1,5 @@
--- The fields that units change, kept beside the record: put into it and read back, put into it twice, and put back as they were.
+-- The fields that units change, kept beside the record: put into it and read back, put into it twice, and put back as they were;
+-- one of sixteen registers set.
 -- Assumes nothing.
 use Prim.Native.Nat.{ℕ, zero, suc, _+_, _/_, _%_, _^_, _≤_, _<_}
 use native.Mathlib.Omega.{arith}
@@ -8,7 +9,7 @@ use mathlib.Core.Bool.{Bool, true, false}
 use mathlib.Core.List.{List, [], _∷_, _++_}
 use mathlib.Core.Logic.{inl, inr}
 use lib.Dec.{eqb}
-use lib.ListN.{length, getD, set, take, length-take}
+use lib.ListN.{length, getD, set, take, length-take, length-set}
 use lib.Seq.{sets, length-sets, take-all, set-comm, set-set}
 use borrow.Author.Tests.{eqb-true, eqb-false}
 use Rattle.machine.specs.declared.Cpu.{Cpu}
@@ -206,3 +207,14 @@ withInterval-withInterval request residue request′ residue′ r =
       set-set r requestAt request request′,
     )
     (sets-sets (set r requestAt request′) residueAt (wordBytes residue) (wordBytes residue′) refl)
+
+-- one of sixteen words, set
+pub sixteen-set : (l : List ℕ) (i v : ℕ) → Sixteen l → v < 2 ^ 32 → Sixteen (set l i v)
+sixteen-set l i v words small = record { long = length-set l i v ∙ words .long; small = λ j. by-list l i j (words .small) }
+  where
+    by-list : (l : List ℕ) (i j : ℕ) → ((j : ℕ) → getD l j 0 < 2 ^ 32) → getD (set l i v) j 0 < 2 ^ 32
+    by-list [] i j each = each j
+    by-list (w ∷ ws) zero zero each = small
+    by-list (w ∷ ws) zero (suc j) each = each (suc j)
+    by-list (w ∷ ws) (suc i) zero each = each zero
+    by-list (w ∷ ws) (suc i) (suc j) each = by-list ws i j (λ j. each (suc j))

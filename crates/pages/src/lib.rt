@@ -1,123 +1,144 @@
-// Pages of a 370-XA guest whose translation is kept from one unit to the next: one for texts, one for operands that are fetched, one
-// for operands that are stored. A guard names the frames that decide the translations.
+// The table of kept blocks: a block is entered, and those that it shuts out are dropped. A guard names the frames that decide the
+// translations.
 ghost use mathlib.Core.Path.{_≡_};
-ghost use mathlib.Core.Bool.{false};
-ghost use mathlib.Core.List.{List};
-ghost use Prim.Native.Nat.{ℕ, _≤_, _<_};
+ghost use mathlib.Core.Bool.{true};
+ghost use Prim.Native.Nat.{_≤_, _<_};
 ghost use lib.ListN.{length};
-ghost use Rattle.machine.specs.declared.Cpu.{Cpu};
 ghost use Rattle.machine.specs.Refusals.{framesOf};
-ghost use Rattle.machine.specs.Host.{Host, host};
+ghost use Rattle.machine.specs.Host.{host};
 ghost use Rattle.storage.specs.Entered.{Entered};
-ghost use Rattle.pages.specs.Keeping.{Holds, Inside, withPage};
+ghost use Rattle.address.specs.declared.Place.{Place};
+ghost use Rattle.address.specs.Touching.{seen, touchOf};
+ghost use Rattle.blocks.specs.Keeping.{Free};
+ghost use Rattle.pages.specs.Tabling.{Tables, Marked, Fewer, entryAt, entered};
 use address::Place;
 use machine::Guest;
 use machine::Psw;
 use machine::Registers;
 
-// A page by its logical address, and the frame to which it leads.
-pub struct Page {
-    pub number: u32,
-    pub frame: u32,
-}
+// The first address of an entry that holds no block.
+pub const NO_BLOCK: u32 = 2147483648;
 
-// A page for texts, one for operands that are fetched and one for operands that are stored.
-pub struct Kept {
-    pub text: Page,
-    pub fetch: Page,
-    pub store: Page,
-}
-
-// The kinds: for texts, for operands that are fetched, for operands that are stored.
-pub const TEXT: u32 = 1;
-
-pub const FETCH: u32 = 2;
-
-pub const STORE: u32 = 3;
-
-// No logical address has this page.
-const NO_PAGE: u32 = 4294967295;
-
-// No page is kept.
-pub fn nothing() -> Kept
-    ensures { λ r. ⌜ ((guard : List ℕ) (g : Guest) (h : Host) (c : Cpu) → Holds guard g h c r) × ((storage keys : List ℕ) → Inside storage keys r) ⌝ }
+// The key has the marks that accesses of the kind make.
+fn has_marks(key: u8, store: bool) -> bool
+    ensures { λ r. ⌜ (r ≡ true → Marked store key) ⌝ }
 {
-    let page = Page {
-        number: NO_PAGE,
-        frame: 0,
-    };
-    Kept {
-        text: page,
-        fetch: page,
-        store: page,
+    if key / 4 % 2 != 1 {
+        return false;
     }
+    if store {
+        return key / 2 % 2 == 1;
+    }
+    true
 }
 
-// With a page of one kind.
-fn with_page(kept: Kept, kind: u32, page: Page) -> Kept
-    ensures { λ r. ⌜ r ≡ withPage kept kind page ⌝ }
+// Drops the blocks that are stored into and lie in a frame that the guard names.
+fn spare(guard: &[u8], kept: &mut [u32; 32])
+    requires { ⌜ (length (now guard) ≡ 64) × (length (now kept) ≡ 32) ⌝ }
+    ensures { λ _. ⌜ Fewer (now (kept .entry)) (now (kept .exit)) × Free (now (guard .entry)) (now (kept .exit)) × (length (now (kept .exit)) ≡ 32) ⌝ }
 {
-    let text = kept.text;
-    let fetch = kept.fetch;
-    let store = kept.store;
-    if kind == TEXT {
-        return Kept {
-            text: page,
-            fetch,
-            store,
-        };
-    }
-    if kind == FETCH {
-        return Kept {
-            text,
-            fetch: page,
-            store,
-        };
-    }
-    Kept {
-        text,
-        fetch,
-        store: page,
+    let mut i: usize = 0;
+    while i < 8 {
+        let at = 16 + i;
+        let placed = 24 + i;
+        let frame = kept[placed] / 4096 % 64;
+        if guard[frame as usize] != 0 {
+            kept[at] = NO_BLOCK;
+        }
+        i += 1;
     }
 }
 
-// Keeps the page of a wrapped logical address, where the access is good.
-pub fn keep(
+// The entry of an address, by the place of its first word.
+fn entry_at(store: bool, a: u32) -> usize
+    ensures { λ r. ⌜ (r ≡ entryAt store a) × (r < 24) ⌝ }
+{
+    let i = (a / 2048 % 8) as usize;
+    if store {
+        return 16 + i;
+    }
+    i
+}
+
+// Enters the block of an address that leads to a place.
+fn enter(kept: &mut [u32; 32], store: bool, a: u32, p: u32)
+    ensures { λ _. ⌜ now (kept .exit) ≡ entered (now (kept .entry)) store a p ⌝ }
+{
+    let i = entry_at(store, a);
+    let placed = 8 + i;
+    kept[i] = a / 2048 * 2048;
+    kept[placed] = p / 2048 * 2048;
+}
+
+// A table has 32 words: of one by value that is known, of one behind a reference it is not.
+fn counted(kept: [u32; 32])
+    ensures { λ _. ⌜ length kept ≡ 32 ⌝ }
+{}
+
+// Keeps the block of an address that leads to a place, where its marks are made, and, for stores, the guard does not name its frame.
+fn keep_at(
     storage: &[u8],
     keys: &[u8],
     guard: &mut [u8],
+    kept: &mut [u32; 32],
     designation: u32,
     guest: Guest,
     psw: Psw,
     control: Registers,
-    kept: Kept,
-    kind: u32,
+    store: bool,
     a: u32,
-) -> Kept
-    requires { ⌜ Entered guest × (framesOf (now storage) ≤ length (now keys)) × (a < 2147483648) × (length (now guard) ≡ 64) × (0 < kind) × (kind < 4)
-        × (psw .system370 ≡ false) ⌝ }
-    ensures { λ r. ⌜ ((c : Cpu) → c .psw ≡ psw → c .control ≡ control → Holds (now (guard .entry)) guest (host designation (now (storage .entry)) (now (keys .entry))) c kept
-        → Holds (now (guard .exit)) guest (host designation (now (storage .entry)) (now (keys .entry))) c r) ⌝ }
-    ensures { λ r. ⌜ (Inside (now (storage .entry)) (now (keys .entry)) kept → Inside (now (storage .entry)) (now (keys .entry)) r) ⌝ }
+    p: u32,
+) -> bool
+    requires { ⌜ Entered guest × (framesOf (now storage) ≤ length (now keys)) × (length (now guard) ≡ 64)
+        × (touchOf guest (host designation (now storage) (now keys)) (seen psw control) store a ≡ Place.At p) ⌝ }
+    ensures { λ _. ⌜ Tables designation guest psw control (now (storage .entry)) (now (keys .entry)) (now (guard .entry)) (now (kept .entry)) (now (guard .exit)) (now (kept .exit)) ⌝ }
 {
-    match address::touch(
-        storage,
-        keys,
-        designation,
-        guest,
-        psw,
-        control,
-        kind == STORE,
-        a,
-    ) {
-        Place::Denied(_) => kept,
-        Place::At(p) => {
-            guard::name_access(storage, guard, designation, guest, psw, control, a);
-            let page = Page {
-                number: a / 4096,
-                frame: p / 4096,
-            };
-            with_page(kept, kind, page)
+    let frame = p / 4096;
+    if !has_marks(keys[frame as usize], store) {
+        return false;
+    }
+    counted(*kept);
+    guard::name_access(storage, guard, designation, guest, psw, control, a);
+    spare(guard, kept);
+    if store {
+        if guard[(frame % 64) as usize] != 0 {
+            return false;
         }
+    }
+    enter(kept, store, a, p);
+    true
+}
+
+// Keeps the block of a wrapped logical address, where the access is good and its marks are made. Whether it is kept now.
+pub fn keep(
+    storage: &[u8],
+    keys: &[u8],
+    guard: &mut [u8],
+    kept: &mut [u32; 32],
+    designation: u32,
+    guest: Guest,
+    psw: Psw,
+    control: Registers,
+    store: bool,
+    a: u32,
+) -> bool
+    requires { ⌜ Entered guest × (framesOf (now storage) ≤ length (now keys)) × (a < 2147483648) × (length (now guard) ≡ 64) ⌝ }
+    ensures { λ _. ⌜ Tables designation guest psw control (now (storage .entry)) (now (keys .entry)) (now (guard .entry)) (now (kept .entry)) (now (guard .exit)) (now (kept .exit)) ⌝ }
+{
+    match address::touch(storage, keys, designation, guest, psw, control, store, a) {
+        Place::Denied(_) => false,
+        Place::At(p) => keep_at(
+            storage,
+            keys,
+            guard,
+            kept,
+            designation,
+            guest,
+            psw,
+            control,
+            store,
+            a,
+            p,
+        ),
     }
 }

@@ -3,7 +3,7 @@ ghost use mathlib.Core.Path.{_≡_};
 ghost use Prim.Native.Nat.{_+_, _≤_, _<_};
 ghost use lib.ListN.{length, getD, set};
 ghost use lib.Seq.{sets};
-ghost use Rattle.machine.specs.Words.{wordsAt};
+ghost use Rattle.machine.specs.Words.{wordAt, wordsAt, doubleAt};
 ghost use Rattle.machine.specs.Record.{isSystem370, registerBytes, guestOf, cpuOf, withCpu, withResults, requestOf, residueOf, withInterval};
 ghost use Rattle.machine.specs.Psw.{control};
 ghost use Rattle.machine.specs.Answers.{results, reasonResults, endResults};
@@ -29,6 +29,28 @@ const REQUEST: usize = 200;
 
 const RESIDUE: usize = 204;
 
+fn wide(x: u8) -> u64
+    ensures { λ r. ⌜ (r ≡ x) × (r < 256) ⌝ }
+{
+    x as u64
+}
+
+// A word, as a number of 64 bits.
+fn word_of(r: &[u8], a: usize) -> u64
+    requires { ⌜ a + 4 ≤ length (now r) ⌝ }
+    ensures { λ x. ⌜ (x ≡ wordAt (now (r .entry)) a) × (x < 4294967296) ⌝ }
+{
+    wide(r[a]) * 16777216 + wide(r[a + 1]) * 65536 + wide(r[a + 2]) * 256 + wide(r[a + 3])
+}
+
+// A double word. The compiler makes it one load, as it does not where the words are widened.
+fn double_of(r: &[u8], a: usize) -> u64
+    requires { ⌜ a + 8 ≤ length (now r) ⌝ }
+    ensures { λ x. ⌜ x ≡ doubleAt (now (r .entry)) a ⌝ }
+{
+    word_of(r, a) * 4294967296 + word_of(r, a + 4)
+}
+
 // The fields that no unit changes.
 pub fn guest_of(r: &[u8]) -> Guest
     requires { ⌜ 200 ≤ length (now r) ⌝ }
@@ -43,8 +65,8 @@ pub fn guest_of(r: &[u8]) -> Guest
         prefix: words::word_at(r, 8) / 4096 % 524288,
         origin: words::half_at(r, 12) as u16,
         extent: words::half_at(r, 14) as u16,
-        comparator: words::double_at(r, 32),
-        epoch: words::double_at(r, 40),
+        comparator: double_of(r, 32),
+        epoch: double_of(r, 40),
         svc: r[48],
         svc1: r[49],
         svc2: r[50],
@@ -52,18 +74,16 @@ pub fn guest_of(r: &[u8]) -> Guest
     }
 }
 
-// The sixteen words from an address on.
-fn registers_at(r: &[u8], a: usize) -> Registers
-    requires { ⌜ a + 64 ≤ length (now r) ⌝ }
-    ensures { λ x. ⌜ x .words ≡ wordsAt (now (r .entry)) a 16 ⌝ }
+// The sixteen words from an address on, into an array that is lent: each is loaded and stored in turn.
+fn registers_at(r: &[u8], a: usize, words: &mut [u32; 16])
+    requires { ⌜ (a + 64 ≤ length (now r)) × (length (now words) ≡ 16) ⌝ }
+    ensures { λ _. ⌜ now (words .exit) ≡ wordsAt (now (r .entry)) a 16 ⌝ }
 {
-    let mut words = [0; 16];
     let mut i = 0;
     while i < 16 {
         words[i] = words::word_at(r, a + 4 * i);
         i += 1;
     }
-    Registers { words }
 }
 
 // Whether the guest is a System/370 one: mode bits 4-5 are 01.
@@ -102,24 +122,28 @@ pub fn cpu_of(r: &[u8]) -> Cpu
     requires { ⌜ 200 ≤ length (now r) ⌝ }
     ensures { λ cpu. ⌜ cpu ≡ cpuOf (now (r .entry)) ⌝ }
 {
+    let mut control = [0; 16];
+    let mut general = [0; 16];
+    registers_at(r, CONTROL, &mut control);
+    registers_at(r, GENERAL, &mut general);
     Cpu {
         psw: Psw {
             left: words::word_at(r, PSW),
             right: words::word_at(r, PSW + 4),
             system370: system370_of(r),
         },
-        timer: words::double_at(r, TIMER),
-        control: registers_at(r, CONTROL),
-        general: registers_at(r, GENERAL),
+        timer: double_of(r, TIMER),
+        control: Registers { words: control },
+        general: Registers { words: general },
     }
 }
 
-// Sixteen words, written from an address on.
-fn put_registers(r: &mut [u8], a: usize, x: Registers)
-    requires { ⌜ a + 64 ≤ length (now r) ⌝ }
-    ensures { λ _. ⌜ now (r .exit) ≡ sets (now (r .entry)) a (registerBytes (x .words)) ⌝ }
+// Sixteen words, written from an address on. They are lent, so that a load stands between the stores of two words: only then does
+// the compiler make one store of the four bytes of each.
+fn put_registers(r: &mut [u8], a: usize, words: &[u32; 16])
+    requires { ⌜ (a + 64 ≤ length (now r)) × (length (now words) ≡ 16) ⌝ }
+    ensures { λ _. ⌜ now (r .exit) ≡ sets (now (r .entry)) a (registerBytes (now (words .entry))) ⌝ }
 {
-    let words = x.words;
     let mut i = 0;
     while i < 16 {
         words::put_word(r, a + 4 * i, words[i]);
@@ -127,16 +151,18 @@ fn put_registers(r: &mut [u8], a: usize, x: Registers)
     }
 }
 
-// The fields that units change, put into the record.
+// The fields that units change, put into the record. Registers stand between the words, for the same reason.
 pub fn put_cpu(r: &mut [u8], cpu: Cpu)
     requires { ⌜ 200 ≤ length (now r) ⌝ }
     ensures { λ _. ⌜ now (r .exit) ≡ withCpu cpu (now (r .entry)) ⌝ }
 {
+    let control = cpu.control.words;
+    let general = cpu.general.words;
     words::put_word(r, PSW, cpu.psw.left);
+    put_registers(r, CONTROL, &control);
     words::put_word(r, PSW + 4, cpu.psw.right);
+    put_registers(r, GENERAL, &general);
     words::put_double(r, TIMER, cpu.timer);
-    put_registers(r, CONTROL, cpu.control);
-    put_registers(r, GENERAL, cpu.general);
 }
 
 // One byte, as a call, so that its caller need not follow the slice's length.
@@ -163,13 +189,13 @@ pub fn residue_of(r: &[u8]) -> u32
     words::word_at(r, RESIDUE)
 }
 
-// The interval timer's fields, put into the record.
+// The interval timer's fields, put into the record, the word first: behind the byte its four bytes would not be one store.
 pub fn put_interval(r: &mut [u8], request: u8, residue: u32)
     requires { ⌜ 208 ≤ length (now r) ⌝ }
     ensures { λ _. ⌜ now (r .exit) ≡ withInterval request residue (now (r .entry)) ⌝ }
 {
-    put_byte(r, REQUEST, request);
     words::put_word(r, RESIDUE, residue);
+    put_byte(r, REQUEST, request);
 }
 
 // Bytes 52-65: interception code, ILC, interruption code, address and instruction text.

@@ -2,7 +2,7 @@
 -- Assumes nothing.
 use Prim.Native.Nat.{ℕ, _<_}
 use mathlib.Core.Path.{_≡_, refl, ap, sym, subst, _∙_}
-use mathlib.Core.Bool.{Bool, true, false, cond, _&&_, false≢true}
+use mathlib.Core.Bool.{Bool, true, false, _&&_, false≢true}
 use mathlib.Core.List.{List}
 use Rattle.machine.specs.declared.Cpu.{Cpu}
 use Rattle.machine.specs.declared.End.{End}
@@ -10,7 +10,7 @@ use Rattle.machine.specs.declared.Failure.{Failure}
 use Rattle.machine.specs.declared.Guest.{Guest}
 use Rattle.machine.specs.declared.Numbers.{Numbers}
 use Rattle.machine.specs.Words.{wordAt}
-use Rattle.machine.specs.Record.{system370Mode, guestOf, withCpu, withInterval, Bounded}
+use Rattle.machine.specs.Record.{system370Mode, guestOf, Bounded}
 use Rattle.machine.specs.Interval.{active, period, residueAfter, pending, requestAfter}
 use Rattle.machine.specs.Host.{Host, host, view}
 use Rattle.machine.specs.Outcomes.{Outcome, completed, intercepted, faulted}
@@ -18,8 +18,6 @@ use Rattle.machine.specs.Units.{unit}
 use Rattle.machine.specs.Time.{clockAfter, charged}
 use Rattle.machine.specs.Run.{hostOf, wordAccesses, goes, ends, step, Ended as Run}
 use Rattle.interruptions.specs.declared.Done.{Done}
-use Rattle.interruptions.specs.declared.Event.{Event}
-use Rattle.interruptions.specs.declared.Event.the-variants.{Completed, Intercepted, Faulted}
 use Rattle.interruptions.specs.After.{eventOf, leftBy, Left}
 use Rattle.execute.proofs.Reaching.{not-both}
 use Rattle.interval.specs.declared.Word.the-variants as word
@@ -29,12 +27,13 @@ use Rattle.unit.proofs.Foretelling.{left-of}
 use Rattle.charging.specs.declared.Due.{Due}
 use Rattle.charging.specs.declared.Due.the-variants.{Later, At, Shut}
 use Rattle.charging.specs.Ending.{isCompleted, endOf, ofXa}
-use Rattle.streaks.specs.Remaining.{plainAt, machineAt, OfGuest}
-use Rattle.run.specs.Running.{timedAt, Ends}
+use Rattle.remaining.specs.Remaining.{timedAt, machineAt, OfGuest}
+use Rattle.run.specs.Running.{Ends}
 use Rattle.charging.specs.Ticking.{requestBehind, WordFound, DueFound, isShut, faultEnd, Fallen}
-use Rattle.run.proofs.Ticks.{guest-here}
-use Rattle.streaks.proofs.Steps.{machine-off, off-goes, off-stops}
-use Rattle.run.proofs.Stepping.{Unit, Ticked, untouched, stepTo, leaves, step-leads, exit-steps, rise-steps, fall-steps, fault-steps}
+use Rattle.remaining.proofs.Ticks.{guest-here}
+use Rattle.remaining.proofs.Steps.{machine-off, off-stops}
+use Rattle.remaining.proofs.Stepping.{Unit, untouched, leaves, step-leads, exit-steps, fall-steps, fault-steps}
+use Rattle.remaining.proofs.Going.{machine-on, goes-on, ends-there, left-off, goes-off, goes-rising}
 
 -- an outcome that completes a unit
 complete-event : (o : Outcome) → isCompleted (eventOf o) ≡ isComplete o
@@ -42,27 +41,6 @@ unfolding isCompleted eventOf isComplete
 complete-event (completed c e) = refl
 complete-event (intercepted r c) = refl
 complete-event (faulted f) = refl
-
--- the machine in hand, where the timer is active
-machine-on : (g : Guest) (d : List ℕ) → active g ≡ true → (c : Cpu) (request residue clock : ℕ) (s k : List ℕ)
-    → machineAt g d c request residue clock s k ≡ timedAt d c request residue clock s k
-machine-on g d on c request residue clock s k =
-    λ i. record { description = cond (on i) (withInterval request residue (withCpu c d)) (withCpu c d); clock = clock; storage = s; keys = k }
-
--- a unit with its tick goes on where it completed, and otherwise ends the run
-module _ (d : List ℕ) (clock time : ℕ) (r : Ticked) (s k : List ℕ) where
-  goes-on : (e : Event) → isCompleted e ≡ true
-      → stepTo d clock time r s k e ≡ goes (timedAt d (r .cpu) (r .request) (r .residue) (clockAfter clock time) s k)
-  unfolding stepTo isCompleted
-  goes-on Completed whole = refl
-  goes-on (Intercepted why) whole = not-both whole refl
-  goes-on (Faulted f) whole = not-both whole refl
-
-  ends-there : (e : Event) → isCompleted e ≡ false → stepTo d clock time r s k e ≡ ends (endOf e) (timedAt d (r .cpu) (r .request) (r .residue) clock s k)
-  unfolding stepTo isCompleted endOf
-  ends-there Completed exits = not-both refl exits
-  ends-there (Intercepted why) exits = refl
-  ends-there (Faulted f) exits = refl
 
 -- the word is shut for the unit's host too
 word-shut : (designation : ℕ) (g : Guest) (storage keys : List ℕ) (f : Failure) → WordFound designation g storage (word.Shut f)
@@ -119,9 +97,6 @@ module _ (n : Numbers) (g : Guest) (d : List ℕ) (of : OfGuest g d) (c : Cpu) (
       left : Left h g c o done s k
       left = clear-left clear
 
-      left-off : active g ≡ false → Left h g c (unit g clock false (view g h) c) done s k
-      left-off off = subst (λ b. Left h g c (unit g clock b (view g h) c) done s k) (begun .told ∙ ap (λ b. b && pending request) off) left
-
       -- a completed unit
       pub goes-to : isCompleted (done .event) ≡ true → ofXa to ≡ ofXa (charged (leftBy c done) (n .time)) → (request′ residue′ : ℕ) (s′ : List ℕ)
           → (active g ≡ true → Fallen due request s request′ s′ × (residue′ ≡ residueAfter residue (n .time))) → (active g ≡ false → s′ ≡ s)
@@ -132,10 +107,7 @@ module _ (n : Numbers) (g : Guest) (d : List ℕ) (of : OfGuest g d) (c : Cpu) (
               → residue′ ≡ residueAfter residue (n .time)
               → step n (timedAt d c request residue clock storage keys) ≡ goes (timedAt d to request′ residue′ (clockAfter clock (n .time)) s′ k)
           by-due Later on found seen (same, stored) rises =
-              step-leads n d (of .timed on) (of .own) c bounded kind request residue small clock storage keys u lasting s k (begun .told)
-              (leaves h g c o (n .time) done s k left true whole to state)
-              ∙ rise-steps n d (of .timed on) (of .own) c bounded kind request residue small clock storage keys u lasting s k on whole (found on)
-              ∙ goes-on d clock (n .time) (record { event = done .event; cpu = to; request = request; residue = residueAfter residue (n .time) }) s k (done .event) whole
+              goes-rising n g d of c bounded kind request residue (λ _. small) clock storage keys asked (begun .told) done s k left whole to lasting state on (found on)
               ∙ (λ i. goes (timedAt d to (sym same i) (sym rises i) (clockAfter clock (n .time)) (sym stored i) k))
           by-due (At p) on (on′, full, place) seen (same, stored) rises =
               step-leads n d (of .timed on) (of .own) c bounded kind request residue small clock storage keys u lasting s k (begun .told)
@@ -149,10 +121,8 @@ module _ (n : Numbers) (g : Guest) (d : List ℕ) (of : OfGuest g d) (c : Cpu) (
           by-active : (b : Bool) → active g ≡ b
               → step n (machineAt g d c request residue clock storage keys) ≡ goes (machineAt g d to request′ residue′ (clockAfter clock (n .time)) s′ k)
           by-active false off =
-              ap (step n) (machine-off g d off c request residue clock storage keys)
-              ∙ off-goes n d (of .long) (of .own) off c bounded kind clock storage keys to lasting s k done (left-off off) whole state
-              ∙ ap (λ s. goes (plainAt d to (clockAfter clock (n .time)) s k)) (sym (stays off))
-              ∙ ap goes (sym (machine-off g d off to request′ residue′ (clockAfter clock (n .time)) s′ k))
+              goes-off n g d of c bounded kind request residue (λ _. small) clock storage keys asked (begun .told) done s k left whole to lasting state off request′ residue′
+              ∙ ap (λ s. goes (machineAt g d to request′ residue′ (clockAfter clock (n .time)) s k)) (sym (stays off))
           by-active true on =
               ap (step n) (machine-on g d on c request residue clock storage keys)
               ∙ by-due due on (begun .found) clear (falls-on on .0) (falls-on on .1)
@@ -167,7 +137,8 @@ module _ (n : Numbers) (g : Guest) (d : List ℕ) (of : OfGuest g d) (c : Cpu) (
               → step n (machineAt g d c request residue clock storage keys) ≡ ends (endOf (done .event)) (machineAt g d to request′ residue clock s k)
           by-active false off =
               ap (step n) (machine-off g d off c request residue clock storage keys)
-              ∙ off-stops n d (of .long) (of .own) off c bounded kind clock storage keys to lasting s k done (left-off off) exits state
+              ∙ off-stops n d (of .long) (of .own) off c bounded kind clock storage keys to lasting s k done
+              (left-off n g d of c bounded kind request residue (λ _. small) clock storage keys asked (begun .told) done s k left off) exits state
               ∙ ap (ends (endOf (done .event))) (sym (machine-off g d off to request′ residue clock s k))
           by-active true on =
               ap (step n) (machine-on g d on c request residue clock storage keys)

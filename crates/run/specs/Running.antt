@@ -5,15 +5,9 @@ use mathlib.Core.List.{List}
 use Rattle.machine.specs.declared.Cpu.{Cpu}
 use Rattle.machine.specs.declared.Guest.{Guest}
 use Rattle.machine.specs.declared.Numbers.{Numbers}
-use Rattle.machine.specs.Record.{withCpu, withInterval}
-use Rattle.machine.specs.Run.{Machine, Ended as Run, run}
-use Rattle.streaks.specs.Remaining.{recordAt, machineAt, OfGuest}
+use Rattle.machine.specs.Run.{Ended as Run, run}
+use Rattle.remaining.specs.Remaining.{recordAt, machineAt, OfGuest}
 use Rattle.run.specs.declared.Ended.{Ended}
-
--- the machine of the definition that stands so, with an interval timer
-abbrev pub timedAt : List ℕ → Cpu → ℕ → ℕ → ℕ → List ℕ → List ℕ → Machine
-timedAt d c request residue clock storage keys =
-    record { description = withInterval request residue (withCpu c d); clock = clock; storage = storage; keys = keys }
 
 -- how the definition's run ended is what the code has
 pub record Ends (e : Run) (g : Guest) (d : List ℕ) (r : Ended) (storage keys : List ℕ) : Type 0 where

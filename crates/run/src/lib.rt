@@ -51,6 +51,7 @@ pub fn run(
     let mut rest = residue;
     let mut pace = Pace { wait: 0, pause: 0 };
     while units < budget {
+        let requested = streaks::both(active, interval::pending(asked));
         let streak = streaks::paced_streak(
             storage,
             keys,
@@ -60,15 +61,18 @@ pub fn run(
             time,
             budget - units,
             cpu,
+            requested,
+            active,
+            rest,
             pace.wait,
         );
         cpu = streaks::after_streak(cpu, streak);
         now = streak.clock;
+        rest = streak.residue;
         units += streak.units;
         pace = streaks::pace_after(pace, streak.units);
         if units < budget {
             let due = charging::find_due(storage, designation, guest, active, rest, time);
-            let requested = streaks::both(active, interval::pending(asked));
             let shut = charging::is_shut(due);
             let done = unit::unit(storage, keys, designation, guest, now, requested, shut, cpu);
             let event = done.event;

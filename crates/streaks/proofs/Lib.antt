@@ -1,3 +1,2 @@
-pub mod Remaining
-pub mod Steps
+pub mod Lapping
 pub mod Streaking

@@ -28,7 +28,7 @@ fn put_bytes(part: &mut [u8], bytes: &[u8])
 }
 
 // A word, over a part of storage that is as long.
-fn put_word_part(part: &mut [u8], value: u32)
+pub fn put_word_part(part: &mut [u8], value: u32)
     requires { ⌜ length (now part) ≡ 4 ⌝ }
     ensures { λ _. ⌜ now (part .exit) ≡ wordBytes value ⌝ }
 {
@@ -36,7 +36,7 @@ fn put_word_part(part: &mut [u8], value: u32)
 }
 
 // A double word, over a part of storage that is as long.
-fn put_double_part(part: &mut [u8], value: u64)
+pub fn put_double_part(part: &mut [u8], value: u64)
     requires { ⌜ length (now part) ≡ 8 ⌝ }
     ensures { λ _. ⌜ now (part .exit) ≡ doubleBytes value ⌝ }
 {

@@ -5,6 +5,7 @@
 use crate::model::{self, Answer, FRAME};
 
 pub mod desk;
+pub mod laps;
 pub mod store_clock;
 
 /// splitmix64.

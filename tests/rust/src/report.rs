@@ -55,8 +55,8 @@ pub fn keep_case(case: &Case, name: &str) {
     );
     // Of a large storage the first frames are enough: the rest is zeros.
     dump("record", &case.record);
-    dump("keys", &case.keys[..case.keys.len().min(64)]);
-    dump("storage", &case.storage[..case.storage.len().min(20 * FRAME)]);
+    dump("keys", &case.keys[..case.keys.len().min(80)]);
+    dump("storage", &case.storage[..case.storage.len().min(80 * FRAME)]);
 }
 
 /// Lines of 32 bytes; lines of zeros are left out.

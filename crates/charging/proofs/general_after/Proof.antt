@@ -6,7 +6,7 @@ use lib.ListN.{length, getD}
 use lib.Seq.{set-out}
 use mir.Syntax.{w32}
 use mir.Val.{Fits}
-use Rattle.charging.proofs.States.{sixteen-set}
+use Rattle.laws.proofs.Lens.{sixteen-set}
 use borrow.Author.Needs.{needs}
 use Rattle.charging.proofs.general_after.Statement.{statement}
 use Rattle.charging.proofs.general_after.Tie as tie

@@ -1,20 +1,23 @@
 -- `guard::name_tables` meets its contract.
 -- Assumes nothing.
-use mathlib.Core.Path.{_∙_}
-use mathlib.Core.Bool.{true, false}
+use mathlib.Core.Path.{refl, sym, _∙_}
 use borrow.Author.Needs.{needs}
-use borrow.Author.Tests.{eq-eqb, ne-eqb}
+use borrow.Author.Tests.{eq-eqb, ne-eqb, not-true, not-false}
 use Rattle.machine.specs.Addresses.{formatGood}
 use Rattle.address.specs.Touching.{seen}
 use Rattle.address.proofs.Touches.{aligned-tableLeads, aligned-segmentLeads}
-use Rattle.guard.proofs.Guarded.{dat-by-bit, real-off, real-malformed, real-walked}
+use Rattle.guard.proofs.Guarded.{real-off, real-malformed, real-walked}
 use Rattle.guard.proofs.name_tables.Statement.{statement}
 use Rattle.guard.proofs.name_tables.Tie as tie
+
+dat-on-requires : tie.Need-dat-on-requires
+dat-on-requires c κs = search needs
 
 returns : tie.Need-returns
 returns c =
     let start = c .before .before .before .before in
-    (λ frame named. named, real-off _ (start .args .guest) (start .args .designation) (start .args .storage .now) (seen (start .args .psw) _) (start .args .a) (dat-by-bit (start .args .psw) false (start .pre .2) (ne-eqb _ _ (c .if1 .taken))))
+    let x = seen (start .args .psw) (start .args .t6) in
+    (λ frame named. named, real-off _ (start .args .guest) (start .args .designation) (start .args .storage .now) x (start .args .a) (sym (c .before .dat-on .ensures x refl) ∙ not-true _ (c .if1 .taken)))
 
 element-copy-out-cr0 : tie.Need-element-copy-out-cr0
 element-copy-out-cr0 c = search needs
@@ -25,11 +28,12 @@ exception-of-requires c κs = search needs
 returns-2 : tie.Need-returns-2
 unfolding formatGood
 returns-2 c =
-    let start = c .before .before .before .before .before .before .before in (
+    let start = c .before .before .before .before .before .before .before in
+    let x = seen (start .args .psw) (start .args .t6) in (
       λ frame named. named,
       rw (c .exception-of .ensures)
-          (real-malformed _ (start .args .guest) (start .args .designation) (start .args .storage .now) (seen (start .args .psw) _) (start .args .a)
-          (dat-by-bit (start .args .psw) true (start .pre .2) (eq-eqb _ _ (c .before .before .before .if1 .left)))
+          (real-malformed _ (start .args .guest) (start .args .designation) (start .args .storage .now) x (start .args .a)
+          (sym (c .before .before .before .before .dat-on .ensures x refl) ∙ not-false _ (c .before .before .before .if1 .left))
           (ne-eqb _ _ (c .before .if2 .taken))),
     )
 
@@ -63,11 +67,12 @@ returns-3 c =
     let led = paged .before .before .before .before .before .before in
     let good = led .before .before .before in
     let start = good .before .before .before .before .before .before in
+    let x = seen (start .args .psw) (start .args .t6) in
     let first = paged .before .before .before .before .before .name-through .ensures in
     let second = paged .name-through2 .ensures in (
       λ frame named. second .0 frame (first .0 frame named),
-      real-walked _ (start .args .guest) (start .args .designation) (start .args .storage .now) (seen (start .args .psw) _) (start .args .a)
-          (dat-by-bit (start .args .psw) true (start .pre .2) (eq-eqb _ _ (good .before .before .if1 .left)))
+      real-walked _ (start .args .guest) (start .args .designation) (start .args .storage .now) x (start .args .a)
+          (sym (good .before .before .before .dat-on .ensures x refl) ∙ not-false _ (good .before .before .if1 .left))
           (eq-eqb _ _ (good .if2 .left))
           _ _ _ _ _
           (led .table-leads .ensures)
@@ -85,6 +90,7 @@ pub name-tables-spec : {M : Type 1} → statement M
 name-tables-spec =
     tie.close
     (tie.spec
+    dat-on-requires
     returns
     element-copy-out-cr0
     exception-of-requires

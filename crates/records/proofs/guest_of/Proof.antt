@@ -38,11 +38,11 @@ half-at-requires-3 c κs = search needs
 cast-t18 : tie.Need-cast-t18
 cast-t18 c = search needs
 
-double-at-requires : tie.Need-double-at-requires
-double-at-requires c κs = search needs
+double-of-requires : tie.Need-double-of-requires
+double-of-requires c κs = search needs
 
-double-at-requires-2 : tie.Need-double-at-requires-2
-double-at-requires-2 c κs = search needs
+double-of-requires-2 : tie.Need-double-of-requires-2
+double-of-requires-2 c κs = search needs
 
 shared-slice-read-t22 : tie.Need-shared-slice-read-t22
 shared-slice-read-t22 c = search needs
@@ -75,8 +75,8 @@ guest-of-spec =
     cast-t16
     half-at-requires-3
     cast-t18
-    double-at-requires
-    double-at-requires-2
+    double-of-requires
+    double-of-requires-2
     shared-slice-read-t22
     shared-slice-read-t24
     shared-slice-read-t26

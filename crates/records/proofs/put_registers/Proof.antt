@@ -30,8 +30,8 @@ add-put-word c = search needs
 mul-put-word-2 : tie.Need-mul-put-word-2 Inv-loop μ-loop
 mul-put-word-2 c = search needs
 
-array-read-put-word : tie.Need-array-read-put-word Inv-loop μ-loop
-array-read-put-word c = search needs
+element-copy-out-put-word : tie.Need-element-copy-out-put-word Inv-loop μ-loop
+element-copy-out-put-word c = search needs
 
 put-word-requires : tie.Need-put-word-requires Inv-loop μ-loop
 put-word-requires c κs = search needs
@@ -45,11 +45,11 @@ loop-less c = search needs
 loop-again : tie.Need-loop-again Inv-loop μ-loop
 loop-again c =
     let start = c .before .before .before .before .before .before .before .before in
-    let long : length (start .args .x .words) ≡ 16 = search needs in (
+    let long : length (start .args .words .now) ≡ 16 = search needs in (
       search needs,
       search needs,
-      rw (c .before .before .put-word .ensures, c .before .before .before .before .before .loop .inv .2)
-          (sets-words-more (start .args .r .now) (start .args .a) (start .args .x .words) (c .before .before .before .before .before .loop .i) (omega arith)),
+      rw (c .before .before .put-word .ensures, c .before .before .before .before .before .before .loop .inv .2)
+          (sets-words-more (start .args .r .now) (start .args .a) (start .args .words .now) (c .before .before .before .before .before .before .loop .i) (omega arith)),
     )
 
 same-length : tie.Need-same-length Inv-loop μ-loop
@@ -57,7 +57,7 @@ same-length c = search needs
 
 returns : tie.Need-returns Inv-loop μ-loop
 returns c =
-    let words = c .before .before .before .before .args .x .words in
+    let words = c .before .before .before .args .words .now in
     let long : length words ≡ 16 = search needs in
     let all : take (c .before .loop .i) words ≡ words = take-all (c .before .loop .i) words (omega arith) in
     rw (take-all 16 words (omega arith), ← all) (c .before .loop .inv .2)
@@ -72,7 +72,7 @@ put-registers-spec =
     mul-put-word
     add-put-word
     mul-put-word-2
-    array-read-put-word
+    element-copy-out-put-word
     put-word-requires
     add-i
     loop-less

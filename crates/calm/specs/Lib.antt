@@ -1,0 +1,2 @@
+pub mod Calming
+pub mod Passing
