@@ -722,5 +722,100 @@ mutant "laps: block taken by 15 bits of its address" "$kept"'; s/if first == log
 mutant "laps: low-address protection lost in a kept block" "$kept"'; s/^        if access == Access::Store && logical <= 511 /        if access == Access::Store \&\& logical <= 511 \&\& !KEPT.with(|kept| kept.borrow().blocks.get(\&(true, 0)).is_some_and(|block| block.0 == 0)) /'
 mutant "laps: block kept without its marks, which are not made" "$kept"'; s/^        for \(frame, stored\) in unit\.marks \{/unit.marks.retain(|\&(frame, stored)| !KEPT.with(|kept| kept.borrow().blocks.iter().any(|(entry, block)| entry.0 == stored \&\& block.1 as usize \/ FRAME == frame)));\n&/; s/if storage_key & marks == marks && /if /'
 
+# Many units at a time: SVC, LPSW, STCK, STPT, SPT, LCTL, STCTL and exceptions that interrupt.
+mutant "laps: old PSW of SVC with the address of SVC" 's/^                let fields = \[0, 1 << 1, 0, number\];/&\nset_instruction_address(\&mut unit.record, instruction_address(\&before));/'
+mutant "laps: fields stored beside a BC PSW" 's/^        fields = &\[\];//'
+mutant "laps: no SVC code in an old BC PSW" 's/^        old_psw\[2\.\.4\]\.copy_from_slice\(&fields\[2\.\.4\]\);/if old == 40 {\n&\n}/'
+mutant "laps: ILC of an old BC PSW as it was, but of SVC" 's/^        old_psw\[4\] = .*/if old == 32 {\n&\n}/'
+mutant "laps: old PSW's form by the new PSW" '/^fn interrupt/,/^}/ s/form\(view\.record\) == Form::Bc/system_370(view.record) \&\& view.fetch(\&view.area(new, 8, Access::Fetch)?)[1] \& 0x08 == 0/'
+mutant "laps: address of a translation exception not stored" 's/fields\.extend\(address\.to_be_bytes\(\)\);//'
+mutant "laps: address of a page exception not cut" 's/let page_address = logical & 0x7FFF_F000/let page_address = logical \& 0x7FFF_F800/'
+mutant "laps: page exception advances the address" 's/if code != SEGMENT_TRANSLATION && code != PAGE_TRANSLATION \{/if code != SEGMENT_TRANSLATION {/'
+mutant "laps: protection exception leaves the address" 's/if code != SEGMENT_TRANSLATION && code != PAGE_TRANSLATION \{/if code != SEGMENT_TRANSLATION \&\& code != PAGE_TRANSLATION \&\& code != PROTECTION {/'
+mutant "laps: privileged operation leaves the address" 's/if code != SEGMENT_TRANSLATION && code != PAGE_TRANSLATION \{/if code != SEGMENT_TRANSLATION \&\& code != PAGE_TRANSLATION \&\& code != PRIVILEGED_OPERATION {/'
+mutant "laps: unassigned operation of three halfwords with ILC 2" 's/return exception\(OPERATION, ilc, 0, &text\)/return exception(OPERATION, ilc.min(2), 0, \&text)/'
+mutant "laps: malformed PSW with ILC 1" 's/return self\.program_exception\(unit, SPECIFICATION, 0, 0, &\[\]\)/return self.program_exception(unit, SPECIFICATION, 1, 0, \&[])/'
+mutant "laps: privilege after alignment" 's/if privileged && psw_bit\(record, 15\) \{/if privileged \&\& psw_bit(record, 15) \&\& !(operation == Operation::LoadPsw \&\& address_s(record, \&text) % 8 != 0) {/'
+mutant "laps: SVC intercepted by its first number alone" 's/\(0\.\.3\)\.any/(0..1).any/'
+mutant "laps: LCTL intercepted by its first register alone" 's/control_range\(text\)\.iter\(\)\.any\(/control_range(text).iter().take(1).any(/'
+mutant "laps: LPSW not intercepted" 's/Operation::LoadPsw => record\[INTERCEPTION_CONTROLS\] & 0x20 != 0/Operation::LoadPsw => false/'
+mutant "laps: code of the last sum kept over a new PSW" '/^fn interrupt/,/^}/ s/^    unit\.mark\(&new_places, false\);/&\nlet code = if form(view.record) == Form::Bc { old_psw[4] } else { old_psw[2] } >> 4 \& 3;\nset_condition_code(\&mut unit.record, code);/'
+mutant "laps: STCK keeps the code of the last sum" '/Operation::StoreClock =>/,/^        }/ s/set_condition_code\(&mut unit\.record, 0\);//'
+mutant "laps: key protection ignored for STCK" '/Operation::StoreClock =>/,/^        }/ s/view\.operand\(address, 8, Access::Store\)\?/{ let mut keyless = record.to_vec(); keyless[PSW + 1] \&= 0x0F; View { record: \&keyless, ..*view }.operand(address, 8, Access::Store)? }/'
+mutant "laps: STCK over a block's end stores into the first" '/Operation::StoreClock =>/,/^        }/ s/unit\.store\(&places, &value\.to_be_bytes\(\)\)/unit.store(\&places[..places.iter().take_while(|place| *place \/ 2048 == places[0] \/ 2048).count()], \&value.to_be_bytes())/'
+mutant "laps: LCTL over a block's end reads on in the first" '/Operation::LoadControl => \{$/,/^        }/ s/let bytes = view\.fetch\(&places\)/let bytes = view.fetch(\&places.iter().map(|place| places[0] \/ 2048 * 2048 + place % 2048).collect::<Vec<u32>>())/'
+mutant "laps: LCTL keeps CR1 where it is not the first" 's/^                set_word\(&mut unit\.record, CONTROL_REGISTERS \+ 4 \* register, /if register == 1 \&\& n > 0 {\ncontinue;\n}\n&/'
+mutant "laps: LCTL ends with 15" 's/^                set_word\(&mut unit\.record, CONTROL_REGISTERS \+ 4 \* register, /if register == 0 \&\& n > 0 {\nbreak;\n}\n&/'
+mutant "laps: STCTL ends with 15" 's/^                unit\.store\(&places\[4 \* n\.\.4 \* n \+ 4\], /if register == 0 \&\& n > 0 {\nbreak;\n}\n&/'
+mutant "laps: STPT after its unit's time" 's/^pub fn run\(/thread_local! { static TIME: std::cell::Cell<u32> = const { std::cell::Cell::new(0) }; }\n&/; s/^    let mut guest = Guest \{/TIME.with(|own| own.set(time));\n&/; s/doubleword\(record, TIMER\)\.to_be_bytes/doubleword(record, TIMER).wrapping_sub(TIME.with(|time| time.get()) as u64).to_be_bytes/'
+mutant "laps: an interruption not charged to the CPU timer" '/fn complete\(/,/^    }/ s/TIMER\)\.wrapping_sub\(self\.time as u64\)/TIMER).wrapping_sub(self.time as u64 * interruption.is_none() as u64)/'
+mutant "laps: an exception not charged to the clock" '/fn complete\(/,/^    }/ s/self\.clock\.wrapping_add\(self\.time as u64\)/self.clock.wrapping_add(self.time as u64 * interruption.is_none_or(|code| code == SVC_INTERRUPTION) as u64)/'
+mutant "laps: residue of SVC not added" 's/^        let interval_timer = match self\.add_to_residue\(&mut unit\) \{/let residue = if interruption == Some(SVC_INTERRUPTION) { Ok(None) } else { self.add_to_residue(\&mut unit) };\n        let interval_timer = match residue {/'
+mutant "laps: word does not fall in the unit of an exception" 's/^        if let Some\(places\) = interval_timer \{/        if let Some(places) = interval_timer.filter(|_| interruption.is_none_or(|code| code == SVC_INTERRUPTION)) {/'
+
+# What an interruption finds and leaves in the prefix page.
+mutant "laps: areas not prefixed" '/fn area_access/,/^    }/ s/self\.real_to_host\(real, Walk::Area\)/{ let mut record = self.record.to_vec(); record[PREFIX..PREFIX + 4].fill(0); View { record: \&record, ..*self }.real_to_host(real, Walk::Area) }/'
+mutant "laps: areas where they were at the start of the run" "$snapshot"'; /fn area_access/,/^    }/ s/self\.real_to_host\(real, Walk::Area\)/START.with(|start| View { storage: \&start.borrow(), ..*self }.real_to_host(real, Walk::Area))/'
+mutant "laps: new PSWs as at the start of the run" "$snapshot"'; /^fn interrupt/,/^}/ s/doubleword\(&view\.fetch\(&new_places\), 0\)/START.with(|start| doubleword(\&View { storage: \&start.borrow(), ..*view }.fetch(\&new_places), 0))/'
+mutant "laps: areas not stored into with low-address protection" 's/^    unit\.store\(&old_places, &old_psw\);/if !bit(control_register(view.record, 0), 3) {\n&\n}/'
+mutant "laps: areas not stored into by another key" 's/^    unit\.store\(&old_places, &old_psw\);/let key = view.record[PSW + 1] >> 4;\nif key == 0 || key == view.keys[old_places[0] as usize \/ FRAME] >> 4 {\n&\n}/'
+mutant "laps: no change bit of the prefix page" 's/^    unit\.mark\(&new_places, false\);/unit.marks.iter_mut().for_each(|mark| mark.1 = false);\n&/'
+mutant "laps: host protection of the prefix page ignored" '/fn area_access/,/^    }/ s/if access == Access::Store && host_protected/if false \&\& access == Access::Store \&\& host_protected/'
+mutant "laps: store into a new PSW seen one unit late" "$late"'; /^fn interrupt/,/^}/ s/doubleword\(&view\.fetch\(&new_places\), 0\)/doubleword(\&new_places.iter().map(|\&place| earlier(view.storage, place)).collect::<Vec<u8>>(), 0)/'
+mutant "laps: store into a PSW seen one unit late by LPSW" "$late"'; /Operation::LoadPsw => \{$/,/^        }/ s/doubleword\(&view\.fetch\(&places\), 0\)/doubleword(\&places.iter().map(|\&place| earlier(view.storage, place)).collect::<Vec<u8>>(), 0)/'
+mutant "laps: store into a control register's value seen one unit late by LCTL" "$late"'; /Operation::LoadControl => \{$/,/^        }/ s/let bytes = view\.fetch\(&places\)/let bytes: Vec<u8> = places.iter().map(|\&place| earlier(view.storage, place)).collect()/'
+
+# A part of the state is seen as it was one unit before. seen_late NAME SED-SCRIPT, where BEFORE is the record of that time.
+before='s/^pub fn run\(/thread_local! { static BEFORE: std::cell::RefCell<Vec<u8>> = const { std::cell::RefCell::new(Vec::new()) }; }\n&/; s/^    record\[RESULT_CODE\.\.66\]\.fill\(0\);/&\nBEFORE.with(|before| *before.borrow_mut() = record.to_vec());/; s/^    let view = View \{ record, storage, keys, designation \};/BEFORE.with(|before| *before.borrow_mut() = record.to_vec());\n&/; s/^        self\.record\.copy_from_slice\(&unit\.record\);/BEFORE.with(|before| before.borrow_mut().copy_from_slice(self.record));\n&/'
+seen_late() {
+    mutant "laps: $1 seen one unit late" "$2; $before"
+}
+seen_late "a PSW's key by stores" 's/let access_key = self\.record\[PSW \+ 1\] >> 4;/let access_key = if access == Access::Store { BEFORE.with(|before| before.borrow()[PSW + 1]) } else { self.record[PSW + 1] } >> 4;/'
+seen_late "a PSW's key by fetches" 's/let access_key = self\.record\[PSW \+ 1\] >> 4;/let access_key = if access == Access::Fetch { BEFORE.with(|before| before.borrow()[PSW + 1]) } else { self.record[PSW + 1] } >> 4;/'
+seen_late "a PSW's DAT" 's/if system_370\(self\.record\) \|\| !psw_bit\(self\.record, 5\)/if system_370(self.record) || !BEFORE.with(|before| psw_bit(\&before.borrow(), 5))/'
+seen_late "a PSW's problem state" 's/if privileged && psw_bit\(record, 15\)/if privileged \&\& BEFORE.with(|before| psw_bit(\&before.borrow(), 15))/'
+seen_late "a PSW's overflow mask" 's/if overflow && overflow_is_enabled\(record\)/if overflow \&\& BEFORE.with(|before| overflow_is_enabled(\&before.borrow()))/'
+seen_late "a PSW's external mask" 's/let external = psw_bit\(record, 7\)/let external = BEFORE.with(|before| psw_bit(\&before.borrow(), 7))/'
+seen_late "a PSW's wait state" 's/^        if psw_bit\(record, 14\) \{/        if BEFORE.with(|before| psw_bit(\&before.borrow(), 14)) {/'
+seen_late "a malformed PSW" 's/^        if psw_is_malformed\(record\) \{/        if BEFORE.with(|before| psw_is_malformed(\&before.borrow())) {/'
+seen_late "CR0 by the list" 's/let control_register_0 = control_register\(record, 0\)/let control_register_0 = BEFORE.with(|before| control_register(\&before.borrow(), 0))/'
+seen_late "CR0's low-address protection" 's/logical <= 511 && bit\(control_register\(self\.record, 0\), 3\)/logical <= 511 \&\& BEFORE.with(|before| bit(control_register(\&before.borrow(), 0), 3))/'
+seen_late "CR0's format of DAT" 's/if control_register\(self\.record, 0\) >> 19/if BEFORE.with(|before| control_register(\&before.borrow(), 0)) >> 19/'
+seen_late "CR1" 's/let designation = control_register\(self\.record, 1\)/let designation = BEFORE.with(|before| control_register(\&before.borrow(), 1))/'
+
+# The timers are passed over in the unit after some. passed_over KIND PATTERN, which is of operation and interruption.
+last='s/^pub fn check\(/thread_local! { static NOW: std::cell::Cell<Option<Operation>> = const { std::cell::Cell::new(None) }; static LAST: std::cell::Cell<(Option<Operation>, Option<u8>)> = const { std::cell::Cell::new((None, None)) }; }\n&/; s/^    record\[RESULT_CODE\.\.66\]\.fill\(0\);/&\nLAST.with(|last| last.set((None, None)));/; s/^        let form = form\(record\);/NOW.with(|now| now.set(None));\n&/; s/^    match execute\(view, unit, clock, operation, &text\) \{/NOW.with(|now| now.set(Some(operation)));\n&/; s/^        self\.record\.copy_from_slice\(&unit\.record\);/&\nLAST.with(|last| last.set((NOW.with(|now| now.take()), interruption)));/'
+passed_over() {
+    mutant "laps: timers passed over in the unit after $1" "$last; s/let external = psw_bit\\(record, 7\\);/let external = psw_bit(record, 7) \\&\\& !LAST.with(|last| matches!(last.get(), $2));/"
+}
+passed_over "SVC" '(_, Some(SVC_INTERRUPTION))'
+passed_over "an exception" '(_, Some(1..=0x12))'
+passed_over "LPSW" '(Some(Operation::LoadPsw), None)'
+passed_over "LCTL" '(Some(Operation::LoadControl), None)'
+passed_over "STCTL" '(Some(Operation::StoreControl), None)'
+passed_over "SPT" '(Some(Operation::SetCpuTimer), None)'
+passed_over "STPT" '(Some(Operation::StoreCpuTimer), None)'
+passed_over "STCK" '(Some(Operation::StoreClock), None)'
+
+# The model keeps the place of the prefix page too, which changes nothing.
+areas="$kept"'; s/quick: bool \}/quick: bool, areas: Option<(u32, bool)> }/; /fn area_access/,/^    }/ s/self\.real_to_host\(real, Walk::Area\)\?;/match KEPT.with(|kept| kept.borrow().areas) {\nSome((page, protected)) => (page + real % 4096, protected),\nNone => self.real_to_host(real, Walk::Area)?,\n};\nKEPT.with(|kept| kept.borrow_mut().areas = Some((absolute \/ 4096 * 4096, host_protected)));/'
+equivalent "laps: prefix page kept" "$areas"
+# prefix_page_kept OVER CONDITION
+prefix_page_kept() {
+    mutant "laps: prefix page kept over $1" "$areas; s/stored \{\nKEPT\.with\(\|kept\| \*kept\.borrow_mut\(\) = Kept::default\(\)\);/stored {\nlet areas = KEPT.with(|kept| kept.borrow().areas).filter(|_| $2);\nKEPT.with(|kept| *kept.borrow_mut() = Kept { areas, ..Kept::default() });/"
+}
+prefix_page_kept "a store into a table" 'interruption.is_none()'
+prefix_page_kept "a store by an interruption" 'interruption.is_some()'
+
+# Blocks kept over stores into tables, over the PSW of an interruption, or over that of LPSW alone.
+for operation in StoreControl StoreClock StoreCpuTimer; do
+    mutant "laps: block kept over a store into a table by $operation" "$last; $kept; s/cr1 \|\| stored \{/cr1 || stored \&\& !matches!(NOW.with(|now| now.get()), Some(Operation::$operation)) {/"
+done
+mutant "laps: block kept over the key of a new PSW" "$kept"'; s/dat \|\| key \|\| cr0/dat || key \&\& interruption.is_none() || cr0/'
+mutant "laps: block kept over the DAT of a new PSW" "$kept"'; s/if dat \|\| key/if dat \&\& interruption.is_none() || key/'
+mutant "laps: block kept over the key of LPSW's PSW" "$kept"'; s/dat \|\| key \|\| cr0/dat || key \&\& interruption.is_some() || cr0/'
+mutant "laps: block kept over the DAT of LPSW's PSW" "$kept"'; s/if dat \|\| key/if dat \&\& interruption.is_some() || key/'
+mutant "laps: block kept over a change of CR1's length" "$kept"'; s/let cr1 = old\[76\.\.80\] != new\[76\.\.80\]/let cr1 = old[76..79] != new[76..79]/'
+
 echo "mutants: $total, caught $caught, missed $missed"
 [ $missed -eq 0 ] && [ $total -gt 0 ]

@@ -16,7 +16,7 @@ use Rattle.machine.specs.declared.Guest.{Guest}
 use Rattle.machine.specs.declared.Walk.{Walk}
 use Rattle.machine.specs.declared.Walk.the-variants.{Page, Failed}
 use Rattle.machine.specs.Refusals.{framesOf}
-use Rattle.machine.specs.Psw.{datOn, accessKey}
+use Rattle.machine.specs.Psw.{datOn, accessKey, control}
 use Rattle.machine.specs.Failures.{protection, exceptionOf}
 use Rattle.machine.specs.Host.{Host, host, inFrame, hostPage, backing, view}
 use Rattle.machine.specs.Addresses.{prefixed, formatGood, realPage, keyProtects, lowProtected}
@@ -90,9 +90,9 @@ module _ (g : Guest) (h : Host) (c later : Cpu) where
 
   -- States whose accesses are guarded alike.
 
-  touch-state : AccessAlike (c .psw) (later .psw) → later .control ≡ c .control → Same
+  touch-state : AccessAlike (c .psw) (later .psw) → control later 0 ≡ control c 0 → control later 1 ≡ control c 1 → Same
   unfolding realPage formatGood lowProtected touched settled keyProtects
-  touch-state accesses controls store a =
+  touch-state accesses zero one store a =
       touched-is g h later store a
       ∙ ap (λ low. cond (store && low) (Denied (exceptionOf protection)) (touched g h later store a (realPage g (view g h) later a))) low
       ∙ ap (cond (store && lowProtected c a) (Denied (exceptionOf protection))) (ap (touched g h later store a) pages ∙ in-page (realPage g (view g h) c a))
@@ -108,10 +108,10 @@ module _ (g : Guest) (h : Host) (c later : Cpu) where
       key = omega (arith, accesses .left)
 
       low : lowProtected later a ≡ lowProtected c a
-      low = rw controls
+      low = rw zero
 
       pages : realPage g (view g h) later a ≡ realPage g (view g h) c a
-      pages = rw (controls, dat)
+      pages = rw (zero, one, dat)
 
       by-host : (protected : Bool) (at : ℕ) (w : Walk)
           → settled g (h .keys) store (guestProtects later store protected) at w ≡ settled g (h .keys) store (guestProtects c store protected) at w
@@ -123,15 +123,25 @@ module _ (g : Guest) (h : Host) (c later : Cpu) where
       in-page (Page frame protected) = let at = prefixed g (frame * 4096 + a % 4096) in by-host protected at (backing g h at)
 
   pub leads-state : (store : Bool) (b : Block) → Leads g h c store b → AccessAlike (c .psw) (later .psw) → later .control ≡ c .control → Leads g h later store b
-  leads-state store b leads accesses controls = leads-same (touch-state accesses controls) store b leads
+  leads-state store b leads accesses controls =
+      leads-same (touch-state accesses (ap (λ k. getD (k .words) 0 0) controls) (ap (λ k. getD (k .words) 1 0) controls)) store b leads
+
+  keeps-controls : (kept : List ℕ) → Keeps g h c kept → AccessAlike (c .psw) (later .psw) → control later 0 ≡ control c 0 → control later 1 ≡ control c 1 → Keeps g h later kept
+  keeps-controls kept keeps accesses zero one = keeps-same (touch-state accesses zero one) kept keeps
 
   pub keeps-state : (kept : List ℕ) → Keeps g h c kept → AccessAlike (c .psw) (later .psw) → later .control ≡ c .control → Keeps g h later kept
-  keeps-state kept keeps accesses controls = keeps-same (touch-state accesses controls) kept keeps
+  keeps-state kept keeps accesses controls = keeps-controls kept keeps accesses (ap (λ k. getD (k .words) 0 0) controls) (ap (λ k. getD (k .words) 1 0) controls)
+
+-- of the control registers, registers 0 and 1 guard accesses
+pub holds-controls : (guard : List ℕ) (g : Guest) (h : Host) (c later : Cpu) (kept : List ℕ) → AccessAlike (c .psw) (later .psw)
+    → control later 0 ≡ control c 0 → control later 1 ≡ control c 1 → Holds guard g h c kept → Holds guard g h later kept
+holds-controls guard g h c later kept accesses zero one holds t alike =
+    keeps-controls g (host (h .designation) t (h .keys)) c later kept (holds t alike) accesses zero one
 
 pub holds-state : (guard : List ℕ) (g : Guest) (h : Host) (c later : Cpu) (kept : List ℕ) → AccessAlike (c .psw) (later .psw) → later .control ≡ c .control
     → Holds guard g h c kept → Holds guard g h later kept
-holds-state guard g h c later kept accesses controls holds t alike =
-    keeps-state g (host (h .designation) t (h .keys)) c later kept (holds t alike) accesses controls
+holds-state guard g h c later kept accesses controls =
+    holds-controls guard g h c later kept accesses (ap (λ k. getD (k .words) 0 0) controls) (ap (λ k. getD (k .words) 1 0) controls)
 
 -- Addressing looks at PSW and control registers alone.
 

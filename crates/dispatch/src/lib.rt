@@ -66,7 +66,7 @@ pub fn intercept_instruction(cpu: Cpu, text: Text) -> Done
 }
 
 // No instruction has the opcode.
-fn unassigned(class: Class) -> bool
+pub fn unassigned(class: Class) -> bool
     ensures { λ r. ⌜ r ≡ sameClass class Unassigned ⌝ }
 {
     match class {

@@ -53,7 +53,7 @@ fn translation(code: u32) -> bool
 }
 
 // The PSW behind an exception: at the instruction after a translation exception or with ILC 0, otherwise past it.
-fn after_exception(psw: Psw, ilc: u8, code: u32) -> Psw
+pub fn after_exception(psw: Psw, ilc: u8, code: u32) -> Psw
     requires { ⌜ ilc ≤ 3 ⌝ }
     ensures { λ r. ⌜ ((x : Progress) (c : Cpu) (f : Failure) → x .text .ilc ≡ ilc → f .code ≡ code → c .psw ≡ psw → withPsw c r ≡ afterException x c f) ⌝ }
 {
@@ -77,7 +77,7 @@ fn intercepts_operation(guest: Guest, code: u32) -> bool
 }
 
 // The program interruption of an exception.
-fn program_interruption(ilc: u8, f: Failure) -> Interruption
+pub fn program_interruption(ilc: u8, f: Failure) -> Interruption
     requires { ⌜ (ilc ≤ 3) × (f .code < 65536) ⌝ }
     ensures { λ r. ⌜ InPrefixPage r × (areasOf r ≡ programAreas) × ((x : Progress) → x .text .ilc ≡ ilc → fieldsOf r ≡ programFields x f)
         × (ilcOf r ≡ ilc) × (codeOf r ≡ f .code) ⌝ }

@@ -100,7 +100,7 @@ fn name_frame(guard: &mut [u8], frame: u32)
 }
 
 // Names the frames of the host's table entries for a host virtual address.
-fn name_host(storage: &[u8], guard: &mut [u8], designation: u32, a: u32)
+pub fn name_host(storage: &[u8], guard: &mut [u8], designation: u32, a: u32)
     requires { ⌜ (length (now guard) ≡ 64) × (a < 2147483648) ⌝ }
     ensures { λ _. ⌜ Wider (now (guard .entry)) (now (guard .exit)) ⌝ }
     ensures { λ _. ⌜ ((t k : List ℕ) → Alike (now (guard .exit)) (now (storage .entry)) t

@@ -1,41 +1,40 @@
 -- The instructions that a lap does, each as a step: the unit of the definition.
 -- Assumes nothing.
-use Prim.Native.Nat.{ℕ, _+_, _-_, _*_, _/_, _%_, _^_, _≤_, _<_}
+use Prim.Native.Nat.{ℕ, _+_, _*_, _/_, _%_, _^_, _≤_, _<_}
 use native.Mathlib.Nat.{div-one}
 use native.Mathlib.Omega.{arith}
 use mathlib.Core.Path.{_≡_, refl, ap, sym, subst, _∙_}
 use mathlib.Core.Bool.{Bool, true, false, cond, not, _&&_}
-use mathlib.Core.List.{List, []}
+use mathlib.Core.List.{List}
 use borrow.Author.Tests.{ne-eqb, eqb-true}
 use lib.Dec.{eqb}
 use lib.ListN.{length, getD}
-use lib.Seq.{sets}
 use Rattle.machine.specs.declared.Class.{Class}
-use Rattle.machine.specs.declared.Class.the-variants.{Lr, Ar, Sr, Bcr, La, Bc, L, St, Unassigned}
+use Rattle.machine.specs.declared.Class.the-variants.{Lr, Bcr, La, Bc, Unassigned}
 use Rattle.machine.specs.declared.Cpu.{Cpu}
 use Rattle.machine.specs.declared.Guest.{Guest}
 use Rattle.machine.specs.declared.Registers.{Registers}
-use Rattle.machine.specs.Words.{bits, byteAt, halfAt, wordAt, wordBytes}
-use Rattle.machine.specs.Psw.{conditionCode, overflowEnabled, mode31, wrap, withGeneral, withAddress, advanced, withConditionCode, general}
-use Rattle.machine.specs.Host.{Host, host}
-use Rattle.machine.specs.Opcodes.{sameClass, both, row, opcodes, has, find, lengthOf, opcodeOf}
+use Rattle.machine.specs.Words.{bits, byteAt, halfAt}
+use Rattle.machine.specs.Psw.{conditionCode, overflowEnabled, wrap, withAddress, advanced, withConditionCode, general}
+use Rattle.machine.specs.Host.{host}
+use Rattle.machine.specs.Opcodes.{sameClass, both, row, opcodes, has, find, lengthOf}
 use Rattle.machine.specs.Outcomes.{Progress}
-use Rattle.machine.specs.Execute.{r1, r2, addressPart, indexedAddress, next, finish, fetching, storing, sumCode, sumOf, sumOverflows, differenceOf, differenceOverflows, summed, selected, branch, loadRegister, loadAddress, add, subtract, branchRegister, branchIndexed, load, store, execute}
+use Rattle.machine.specs.Execute.{r1, r2, addressPart, indexedAddress, sumCode, summed, selected, branch, loadRegister, loadAddress, branchRegister, branchIndexed, execute}
 use Rattle.machine.specs.Units.{intercepts}
 use Rattle.cpu.proofs.Wrap.{wrap-wrap}
 use Rattle.address.specs.Touching.{seen}
 use Rattle.interruptions.specs.After.{Standing, Left}
 use Rattle.psws.specs.Psws.{state, pswAt}
-use Rattle.psws.proofs.Placed.{overflow-at, moved-at, coded-at, advanced-at, rewrapped}
+use Rattle.psws.proofs.Placed.{overflow-at, moved-at, coded-at, rewrapped}
 use Rattle.sums.specs.Summing.{outside, codeIn, Says}
 use Rattle.sums.proofs.Codes.{small-code-in}
-use Rattle.blocks.specs.Keeping.{Leads, Keeps}
+use Rattle.blocks.specs.Keeping.{Keeps}
 use Rattle.steps.specs.Texting.{shortText, textFrame, doneWith}
 use Rattle.steps.proofs.Reading.{length-one, length-two, reads-one, reads-two}
 use Rattle.steps.proofs.Deciding.{listed, executed-here}
 use Rattle.steps.proofs.Completing.{set-here, sum-here, branch-here}
 use Rattle.lap.specs.declared.Step.{Step}
-use Rattle.lap.specs.Stepping.{Spot, addressIn, pswIn, nowhere, partOf, totalOf, stepTo, stepWants, sumStep, branchStep, pswAfter, Ground, Top, Steps}
+use Rattle.lap.specs.Stepping.{Spot, addressIn, pswIn, nowhere, totalOf, stepTo, stepWants, branchStep, pswAfter, Ground, Top, Steps}
 use Rattle.lap.proofs.Placing.{leads-of, here, wraps, wrapped-here, coded-here, past-here}
 
 and-swapped : (x y : Bool) → (y && x) ≡ false → (x && y) ≡ false

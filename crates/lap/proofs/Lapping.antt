@@ -1,6 +1,6 @@
 -- A lap, turn by turn.
 -- Assumes nothing.
-use Prim.Native.Nat.{ℕ, suc, _+_, _-_, _*_, _/_, _%_, _^_, _≤_, _<_}
+use Prim.Native.Nat.{ℕ, suc, _+_, _-_, _%_, _^_, _≤_, _<_}
 use native.Mathlib.Omega.{arith}
 use mathlib.Core.Path.{_≡_, refl, ap, sym, subst, transport, _∙_}
 use mathlib.Core.Bool.{Bool, true, false, cond}
@@ -12,7 +12,7 @@ use lib.Seq.{set-out}
 use Rattle.machine.specs.declared.Guest.{Guest}
 use Rattle.machine.specs.declared.Psw.{Psw}
 use Rattle.machine.specs.declared.Registers.{Registers}
-use Rattle.machine.specs.Psw.{conditionCode, overflowEnabled, mode31, instructionAddress, wrap}
+use Rattle.machine.specs.Psw.{conditionCode, overflowEnabled, mode31, instructionAddress}
 use Rattle.machine.specs.Record.{Sixteen}
 use Rattle.machine.specs.Host.{host}
 use Rattle.address.specs.Touching.{seen}

@@ -1,14 +1,14 @@
 -- What a step of the code is, by its opcode: done, and a unit of the definition; or nothing is changed.
 -- Assumes nothing.
-use Prim.Native.Nat.{ℕ, _+_, _-_, _*_, _/_, _%_, _^_, _≤_, _<_}
+use Prim.Native.Nat.{ℕ, _+_, _/_, _%_, _^_, _≤_, _<_}
 use native.Mathlib.Omega.{arith}
 use mathlib.Core.Path.{_≡_, refl, ap, sym, subst, _∙_}
 use mathlib.Core.Bool.{Bool, true, false, cond, not, _&&_}
 use mathlib.Core.List.{List}
 use mathlib.Core.Logic.{_⊎_, inl, inr, ⊎-elim}
-use borrow.Author.Tests.{eqb-true, eqb-false, eq-eqb, ne-eqb, ltb-true, ltb-false}
+use borrow.Author.Tests.{eqb-true, ltb-false}
 use lib.Dec.{eqb, ltb}
-use lib.ListN.{length, getD}
+use lib.ListN.{getD}
 use lib.Seq.{sets}
 use Rattle.machine.specs.declared.Class.the-variants.{Ar, Sr}
 use Rattle.machine.specs.Words.{byteAt, halfAt, wordAt, wordBytes}
@@ -23,7 +23,7 @@ use Rattle.sums.specs.Summing.{outside, codeIn, Says}
 use Rattle.blocks.specs.Keeping.{Free, Inside, storeBlock}
 use Rattle.blocks.proofs.Holding.{alike-same, kept-free}
 use Rattle.lap.specs.declared.Step.{Step}
-use Rattle.lap.specs.Stepping.{Spot, nowhere, totalOf, cut, behind, entryOf, storeReach, stepTo, stepWants, sumStep, branchStep, loadStep, storeStep, storedStep, Ground, Top, Onward, Steps, Stepped}
+use Rattle.lap.specs.Stepping.{Spot, nowhere, totalOf, cut, behind, entryOf, storeReach, stepTo, stepWants, sumStep, branchStep, loadStep, storeStep, storedStep, Ground, Top, Steps, Stepped}
 use Rattle.lap.proofs.Placing.{cut-is-wrap}
 use Rattle.lap.proofs.Instructions.{lr-steps, sum-steps, bcr-stays, bcr-goes, la-steps, bc-stays, bc-goes}
 use Rattle.lap.proofs.Words.{near, l-steps, st-steps}

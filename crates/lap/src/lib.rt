@@ -122,7 +122,7 @@ fn content(words: &[u32; 16], r: usize) -> u32
 
 // The content of a base or index register: register 0 stands for zero. There is no branch here, which a processor would have to
 // guess.
-fn part(words: &[u32; 16], ones: &[u32; 16], r: usize) -> usize
+pub fn part(words: &[u32; 16], ones: &[u32; 16], r: usize) -> usize
     requires { ⌜ (r < 16) × (now ones ≡ flags) ⌝ }
     ensures { λ v. ⌜ (v ≡ partOf (now (words .entry)) r) × (v < 4294967296) ⌝ }
 {
@@ -139,7 +139,7 @@ fn total(storage: &[u8], words: &[u32; 16], ones: &[u32; 16], at: usize, x: usiz
 }
 
 // A logical address, cut to the addressing mode.
-fn wrapped(long: bool, total: usize) -> usize
+pub fn wrapped(long: bool, total: usize) -> usize
     ensures { λ r. ⌜ (r ≡ cut long total) × (r < 2147483648) ⌝ }
 {
     if long {
@@ -301,7 +301,7 @@ fn set_register(words: &mut [u32; 16], register: usize, value: u32)
 }
 
 // Where the text at a logical address stands.
-fn land(kept: &[u32; 32], a: usize) -> Landing
+pub fn land(kept: &[u32; 32], a: usize) -> Landing
     requires { ⌜ a < 2147483648 ⌝ }
     ensures { λ r. ⌜ (r .good ≡ true → Lands (now (kept .entry)) a r) ⌝ }
 {
@@ -351,7 +351,7 @@ fn elsewhere(a: usize, sum: u64, units: u32) -> Lap
 }
 
 // The addressing mode is of 31 bits.
-fn is_long(psw: Psw) -> bool
+pub fn is_long(psw: Psw) -> bool
     ensures { λ r. ⌜ ((c : Cpu) → c .psw ≡ psw → r ≡ mode31 c) ⌝ }
 {
     if psw.system370 {

@@ -154,6 +154,7 @@ module _ (d : ℕ) (g : Guest) (psw : Psw) (control : Registers) (s k guard guar
   pub tables-dropped : Wider guard guard′ → Fewer kept kept′ → Free guard′ kept′ → Tables d g psw control s k guard kept guard′ kept′
   tables-dropped wider fewer free =
       record {
+        wider = wider;
         holds = λ holds t alike.
             let keeps = holds t (alike-narrower guard guard′ s t wider alike) in
             let all = fewer-all (Leads g (host d t k) (seen psw control)) (λ b is e inside small low. absurd (omega (arith, is))) kept kept′ fewer (record { fetch = keeps .fetch; store = keeps .store }) in
@@ -174,6 +175,7 @@ module _ (d : ℕ) (g : Guest) (psw : Psw) (control : Registers) (s k guard guar
       → Tables d g psw control s k guard kept guard′ (entered kept′ store a p)
   tables-entered store a p each found marked decides clear long tables =
       record {
+        wider = tables .wider;
         holds = λ holds t alike.
             let keeps = tables .holds holds t alike in
             let leads = leads-block g (host d t k) (seen psw control) store a p (decides t k store alike ∙ found) (blockOf a p) refl refl in

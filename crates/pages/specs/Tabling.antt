@@ -10,10 +10,12 @@ use Rattle.machine.specs.declared.Psw.{Psw}
 use Rattle.machine.specs.declared.Registers.{Registers}
 use Rattle.machine.specs.Host.{host, referenced, changed}
 use Rattle.address.specs.Touching.{seen}
+use Rattle.guard.specs.Guarding.{Wider}
 use Rattle.blocks.specs.Keeping.{fetchBlock, storeBlock, Holds, Inside, Marks, Free}
 
 -- what a table and its guard promise goes over to a later table and guard
 pub record Tables (designation : ℕ) (g : Guest) (psw : Psw) (control : Registers) (storage keys guard kept guard′ kept′ : List ℕ) : Type 0 where
+  pub wider : Wider guard guard′
   pub holds : Holds guard g (host designation storage keys) (seen psw control) kept → Holds guard′ g (host designation storage keys) (seen psw control) kept′
   pub inside : Inside storage kept → Inside storage kept′
   pub marks : Marks keys kept → Marks keys kept′

@@ -33,7 +33,7 @@ fn has_marks(key: u8, store: bool) -> bool
 }
 
 // Drops the blocks that are stored into and lie in a frame that the guard names.
-fn spare(guard: &[u8], kept: &mut [u32; 32])
+pub fn spare(guard: &[u8], kept: &mut [u32; 32])
     requires { ⌜ (length (now guard) ≡ 64) × (length (now kept) ≡ 32) ⌝ }
     ensures { λ _. ⌜ Fewer (now (kept .entry)) (now (kept .exit)) × Free (now (guard .entry)) (now (kept .exit)) × (length (now (kept .exit)) ≡ 32) ⌝ }
 {

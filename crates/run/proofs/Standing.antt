@@ -27,7 +27,7 @@ pub record Stands (designation : ℕ) (g : Guest) (clock time budget : ℕ) (sta
 pub streak-on : {designation : ℕ} {g : Guest} {clock time budget : ℕ} {start : Cpu} {request residue : ℕ} {storage₀ keys₀ : List ℕ}
     {c : Cpu} {asked rest now units : ℕ} {storage keys : List ℕ} → Stands designation g clock time budget start request residue storage₀ keys₀ c asked rest now units storage keys
     → (requested : Bool) → requested ≡ (active g && pending asked) → (r : Streak) (storage′ : List ℕ) → Paced designation g now time (budget - units) c requested rest storage keys r storage′
-    → (after : Cpu) → after ≡ ofMode (c .psw .system370) (afterStreak c r)
+    → (after : Cpu) → after ≡ ofMode (c .psw .system370) (afterStreak r)
     → Stands designation g clock time budget start request residue storage₀ keys₀ after asked (r .residue) (r .clock) (units + r .units) storage′ keys
 streak-on {g = g} {clock = clock} {budget = budget} {start = start} {request = request} {residue = residue} {storage₀ = storage₀} {keys₀ = keys₀} {c = c} {asked = asked} {rest = rest} {now = now}
     {units = units} {storage = storage} {keys = keys} stands requested told r storage′ paced after is = record {
@@ -37,9 +37,9 @@ streak-on {g = g} {clock = clock} {budget = budget} {start = start} {request = r
       remains = λ n d designated timed of.
           subst (λ k. Remains n budget (machineAt g d start request residue clock storage₀ keys₀) (units + r .units) (machineAt g d k asked (r .residue) (r .clock) storage′ keys)) (sym same)
           (units-more n budget (machineAt g d start request residue clock storage₀ keys₀) (machineAt g d c asked rest now storage keys)
-          (machineAt g d (afterStreak c r) asked (r .residue) (r .clock) storage′ keys) units (r .units) (stands .remains n d designated timed of)
+          (machineAt g d (afterStreak r) asked (r .residue) (r .clock) storage′ keys) units (r .units) (stands .remains n d designated timed of)
           (paced .remains n d asked designated timed of told));
     }
   where
-    same : after ≡ afterStreak c r
-    same = is ∙ of-mode (c .psw .system370) (afterStreak c r) (paced .architecture)
+    same : after ≡ afterStreak r
+    same = is ∙ of-mode (c .psw .system370) (afterStreak r) (paced .architecture)

@@ -1,6 +1,6 @@
 -- Instructions with an operand that stands on a kept block, as their text does.
 -- Assumes nothing.
-use Prim.Native.Nat.{ℕ, _+_, _-_, _/_, _%_, _≤_, _<_}
+use Prim.Native.Nat.{ℕ, _+_, _-_, _≤_, _<_}
 use native.Mathlib.Omega.{arith}
 use mathlib.Core.Path.{_≡_, refl, ap, sym, subst, _∙_}
 use mathlib.Core.Bool.{Bool, true, false}
@@ -17,8 +17,6 @@ use Rattle.machine.specs.Host.{Host}
 use Rattle.machine.specs.Opcodes.{lengthOf}
 use Rattle.machine.specs.Outcomes.{Progress}
 use Rattle.machine.specs.Execute.{r1, next, fetching, storing}
-use Rattle.address.specs.declared.Place.the-variants.{At}
-use Rattle.address.specs.Touching.{touchOf}
 use Rattle.operands.specs.declared.Operand.the-variants.{Open}
 use Rattle.operands.specs.Operands.{operandOf, inOnePage, toPageEnd}
 use Rattle.interruptions.specs.declared.Done.{Done}

@@ -2,6 +2,7 @@
 use Prim.Native.Nat.{ℕ, _/_}
 use Rattle.machine.specs.declared.Cpu.{Cpu}
 use Rattle.machine.specs.declared.Psw.{Psw}
+use Rattle.machine.specs.declared.Registers.{Registers}
 use Rattle.machine.specs.declared.Text.{Text}
 use Rattle.machine.specs.Opcodes.{lengthOf}
 use Rattle.interruptions.specs.declared.Done.{Done}
@@ -21,3 +22,7 @@ textFrame b = record { count = 1; first = b .place / 4096; second = 0 }
 abbrev pub doneWith : Cpu → Psw → ℕ → ℕ → Done
 doneWith c psw register value =
     record { event = event.Completed; psw = psw; timer = c .timer; control = c .control; register = register; value = value }
+
+-- a completed unit that leaves this PSW, this CPU timer and these control registers, and the general registers as they are
+abbrev pub doneAs : Psw → ℕ → Registers → Done
+doneAs psw timer control = record { event = event.Completed; psw = psw; timer = timer; control = control; register = 16; value = 0 }

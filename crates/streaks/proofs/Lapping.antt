@@ -1,17 +1,18 @@
--- The units of a lap, one by one, are steps of the definition.
+-- The units of a lap, one by one, are steps of the definition, and so is a unit that a lap does not do.
 -- Assumes nothing.
-use Prim.Native.Nat.{ℕ, suc, _+_, _*_, _^_, _≤_, _<_}
+use Prim.Native.Nat.{ℕ, suc, _+_, _^_, _≤_, _<_}
 use native.Mathlib.Omega.{arith}
 use native.Mathlib.Numerals.{add-one}
-use native.Mathlib.Nat.{mul-le-mul-right}
 use mathlib.Core.Path.{_≡_, refl, ap, sym, subst, _∙_}
-use mathlib.Core.Bool.{Bool, true, false, _&&_}
+use mathlib.Core.Bool.{Bool, true, false, cond, _&&_}
 use mathlib.Core.List.{List}
 use Rattle.machine.specs.declared.Cpu.{Cpu}
 use Rattle.machine.specs.declared.Guest.{Guest}
 use Rattle.machine.specs.declared.Numbers.{Numbers}
+use Rattle.machine.specs.declared.Psw.{Psw}
 use Rattle.machine.specs.Record.{system370Mode, Bounded}
-use Rattle.machine.specs.Psw.{withTimer}
+use Rattle.machine.specs.Psw.{basicControl, instructionAddress, conditionCode, withTimer}
+use Rattle.machine.specs.Words.{bits}
 use Rattle.machine.specs.Interval.{active, period, falls, residueAfter, pending}
 use Rattle.machine.specs.Time.{clockAfter, timerAfter, charged}
 use Rattle.machine.specs.Host.{host, view}
@@ -20,13 +21,17 @@ use Rattle.machine.specs.Run.{Machine, goes, step}
 use Rattle.interruptions.specs.declared.Done.{Done}
 use Rattle.interruptions.specs.declared.Event.the-variants.{Completed}
 use Rattle.interruptions.specs.After.{leftBy, Left}
+use Rattle.interruptions.proofs.Leaving.{none-set}
 use Rattle.charging.specs.Ending.{isCompleted, ofXa}
 use Rattle.remaining.specs.Remaining.{machineAt, OfGuest, Remains}
 use Rattle.remaining.proofs.Remaining.{one-more}
 use Rattle.remaining.proofs.Going.{goes-later}
-use Rattle.psws.proofs.Placed.{fits-left, fits-right, system370-at}
+use Rattle.psws.specs.Psws.{state, Wrapped}
+use Rattle.psws.proofs.Placed.{fits-left, fits-right, system370-at, at-start}
 use Rattle.calm.specs.Calming.{clocks, timers, residues, Calm}
 use Rattle.calm.proofs.Charging.{clock-more, clock-start, timer-more, timer-start, residue-start, residue-more, not-falling}
+use Rattle.steps.specs.Texting.{doneAs}
+use Rattle.turns.proofs.Rising.{residue-below}
 use Rattle.lap.specs.Lapping.{Stance, stance, Turns, Near, Goes, none, more}
 
 pub small-clock : (clock time k : ℕ) → clocks clock time k < 2 ^ 64
@@ -37,10 +42,26 @@ pub small-timer : (timer time k : ℕ) → timers timer time k < 2 ^ 64
 unfolding timers
 small-timer timer time k = omega arith
 
--- the residue rises
-pub residue-below : (residue time k n : ℕ) → k ≤ n → residues residue time n < period → residues residue time k < period
-unfolding residues
-residue-below residue time k n fewer within = let less : k * (3 * time) ≤ n * (3 * time) = mul-le-mul-right (3 * time) fewer in omega arith
+-- one unit
+one-clock : (clock time : ℕ) → clockAfter clock time ≡ clocks clock time 1
+unfolding clockAfter clocks
+one-clock clock time = omega arith
+
+one-timer : (timer time : ℕ) → timerAfter timer time ≡ timers timer time 1
+unfolding timerAfter timers
+one-timer timer time = omega arith
+
+one-residue : (residue time : ℕ) → falls residue time ≡ false → residueAfter residue time ≡ residues residue time 1
+unfolding residueAfter residues
+one-residue residue time rises = rw rises (omega arith)
+
+-- a condition code is a number of two bits
+small-code : (c : Cpu) → conditionCode c < 4
+small-code c = by-form (basicControl c)
+  where
+    by-form : (b : Bool) → cond b (bits 32 2 3 (c .psw .right)) (bits 32 18 19 (c .psw .left)) < 4
+    by-form true = omega arith
+    by-form false = omega arith
 
 module _ (n : Numbers) (g : Guest) (d : List ℕ) (of : OfGuest g d) {designation time : ℕ} (designated : n .designation ≡ designation) (timed : n .time ≡ time)
     (request : ℕ) (requested : Bool) (told : requested ≡ (active g && pending request)) (keys : List ℕ) (c : Cpu) (bounded : Bounded c)
@@ -118,3 +139,45 @@ module _ (n : Numbers) (g : Guest) (d : List ℕ) (of : OfGuest g d) {designatio
         subst (λ u. Remains n budget start u (standing to (suc k))) (omega arith)
         (one-more n budget start (before + k) (standing at k) (units-on goes-there (omega arith) here) (omega arith)
         (turn at to k (omega arith) here there turns))
+
+    -- a unit that a lap does not do
+    module _ (some : 0 < most) (wrapped : Wrapped (c .psw) (instructionAddress (state (c .psw)))) (psw′ : Psw) (timer′ : ℕ) (control′ storage′ : List ℕ)
+        (left : Left (host designation storage keys) g c (instruction (started g clock (view g (host designation storage keys)) c 1))
+        (doneAs psw′ timer′ (record { words = control′ })) storage′ keys) where
+      abbrev next : Cpu
+      next = record { psw = psw′; timer = timers timer′ time 1; control = record { words = control′ }; general = c .general }
+
+      abbrev done : Done
+      done = doneAs psw′ timer′ (record { words = control′ })
+
+      listed-now : (e : ℕ) → unit g clock requested (view g (host e storage keys)) c ≡ instruction (started g clock (view g (host e storage keys)) c 1)
+      listed-now e =
+          subst (λ t. unit g t requested (view g (host e storage keys)) c ≡ instruction (started g t (view g (host e storage keys)) c 1)) (clock-start clock time word)
+          (calm 0 some (view g (host e storage keys)) c
+          (record { address = instructionAddress (state (c .psw)); code = conditionCode (state (c .psw)); small = small-code (state (c .psw)); psw = sym (at-start (c .psw) (bounded .left) (bounded .right) wrapped); control = refl })
+          (sym (timer-start (c .timer) time (bounded .timer))))
+
+      short-now : active g ≡ true → falls residue time ≡ false
+      short-now on = ap (λ r. falls r time) (sym (residue-start residue time)) ∙ not-falling residue time 0 most some (rising on)
+
+      small-now : active g ≡ true → residue < period
+      small-now on = subst (λ r. r < period) (residue-start residue time) (residue-below residue time 0 most (omega arith) (rising on))
+
+      left-now : Left (host (n .designation) storage keys) g c (unit g clock requested (view g (host (n .designation) storage keys)) c) done storage′ keys
+      left-now =
+          subst (λ e. Left (host e storage keys) g c (unit g clock requested (view g (host e storage keys)) c) done storage′ keys) (sym designated)
+          (subst (λ o. Left (host designation storage keys) g c o done storage′ keys) (sym (listed-now designation)) left)
+
+      single-step : Bounded next
+          → step n (machineAt g d c request residue clock storage keys) ≡ goes (machineAt g d next request (residues residue time 1) (clocks clock time 1) storage′ keys)
+      unfolding isCompleted charged withTimer
+      single-step lasting =
+          goes-later n g d of c bounded kind request residue small-now clock storage keys requested told done storage′ keys left-now refl next lasting
+          ((λ i. ofXa (record { psw = psw′; timer = (sym (one-timer timer′ time) ∙ ap (timerAfter timer′) (sym timed)) i; control = record { words = control′ }; general = c .general }))
+          ∙ ap (λ k. ofXa (charged k (n .time))) (sym (none-set c Completed psw′ timer′ (record { words = control′ }) (bounded .general .long))))
+          (λ on. ap (falls residue) timed ∙ short-now on) (residues residue time 1)
+          (λ on. sym (one-residue residue time (short-now on)) ∙ ap (residueAfter residue) (sym timed))
+          ∙ ap (λ t. goes (machineAt g d next request (residues residue time 1) t storage′ keys)) (ap (clockAfter clock) timed ∙ one-clock clock time)
+
+      pub single-on : Bounded next → Remains n budget start (before + 1) (machineAt g d next request (residues residue time 1) (clocks clock time 1) storage′ keys)
+      single-on lasting = one-more n budget start before (machineAt g d c request residue clock storage keys) remains (omega arith) (single-step lasting)

@@ -1,39 +1,29 @@
 // Streaks: units on kept blocks, many at a time, and when to try one. A streak is as many units of the definition, each with its
 // tick.
 ghost use mathlib.Core.Path.{_≡_};
-ghost use mathlib.Core.Bool.{true, _&&_};
-ghost use Prim.Native.Nat.{_+_, _≤_, _<_};
+ghost use mathlib.Core.Bool.{_&&_};
+ghost use Prim.Native.Nat.{_≤_, _<_};
 ghost use lib.ListN.{length};
 ghost use Rattle.machine.specs.Refusals.{mostTime, framesOf};
 ghost use Rattle.machine.specs.Interval.{active, period};
 ghost use Rattle.machine.specs.Record.{system370Mode, Bounded};
 ghost use Rattle.storage.specs.Entered.{Entered};
 ghost use Rattle.charging.specs.Ending.{ofMode};
-ghost use Rattle.calm.specs.Calming.{residues};
-ghost use Rattle.pages.specs.Tabling.{Tables};
-ghost use Rattle.streaks.specs.Streaking.{afterStreak, unbegun, Paced, Charges};
-use lap::Lap;
+ghost use Rattle.streaks.specs.Streaking.{afterStreak, unbegun, Paced};
 use machine::Cpu;
 use machine::Guest;
 use machine::Psw;
 use machine::Registers;
+use turns::Stand;
 
-// What a streak leaves: the state but for the control registers, the host clock, the units completed, and the interval timer's
-// residue.
+// What a streak leaves: the state, the host clock, the units completed, and the interval timer's residue.
 pub struct Streak {
     pub psw: Psw,
     pub timer: u64,
     pub clock: u64,
+    pub control: Registers,
     pub general: Registers,
     pub units: u32,
-    pub residue: u32,
-}
-
-// What a lap is charged to: PSW, CPU timer, host clock, and the interval timer's residue.
-pub struct Charge {
-    pub psw: Psw,
-    pub timer: u64,
-    pub clock: u64,
     pub residue: u32,
 }
 
@@ -53,87 +43,18 @@ pub fn both(x: bool, y: bool) -> bool
     false
 }
 
-// Keeps the block that is wanted, if one is. Whether to go on.
-fn keep_wanted(
-    storage: &[u8],
-    keys: &[u8],
-    guard: &mut [u8],
-    kept: &mut [u32; 32],
-    designation: u32,
-    guest: Guest,
-    psw: Psw,
-    control: Registers,
-    want: u32,
-    a: u32,
-) -> bool
-    requires { ⌜ Entered guest × (framesOf (now storage) ≤ length (now keys)) × (a < 2147483648) × (length (now guard) ≡ 64) ⌝ }
-    ensures { λ _. ⌜ Tables designation guest psw control (now (storage .entry)) (now (keys .entry)) (now (guard .entry)) (now (kept .entry)) (now (guard .exit)) (now (kept .exit)) ⌝ }
-{
-    if want < lap::FETCH {
-        return true;
-    }
-    let store = want == lap::STORE;
-    pages::keep(
-        storage,
-        keys,
-        guard,
-        kept,
-        designation,
-        guest,
-        psw,
-        control,
-        store,
-        a,
-    )
-}
-
-// The laps in a row that came to nothing, after one of so many units.
-fn tries_after(tries: u32, units: u32) -> u32
-    requires { ⌜ tries ≤ 3 ⌝ }
-    ensures { λ r. ⌜ (0 < units → r ≡ 0) × (units ≡ 0 → r ≡ tries + 1) ⌝ }
-{
-    if units > 0 {
-        return 0;
-    }
-    tries + 1
-}
-
-// The units that may follow: none where no block can be kept that would help, or enough have been.
-fn most_after(most: u32, want: u32, tries: u32) -> u32
-    ensures { λ r. ⌜ (r ≤ most) × (0 < r → tries ≤ 3) ⌝ }
-{
-    if want >= lap::OTHER {
-        return 0;
-    }
-    if tries > 3 {
-        return 0;
-    }
-    most
-}
-
-// What is left when a lap is charged.
-fn charged(timed: bool, time: u32, psw: Psw, timer: u64, clock: u64, residue: u32, l: Lap) -> Charge
-    requires { ⌜ (l .code < 4) × (timed ≡ true → residues residue time (l .units) < period) ⌝ }
-    ensures { λ r. ⌜ Charges timed time psw timer clock residue l r ⌝ }
-{
-    Charge {
-        psw: psws::psw_at(psw, l.address, l.code),
-        timer: calm::timer_after(timer, time, l.units),
-        clock: calm::clock_after(clock, time, l.units),
-        residue: calm::residue_after(timed, residue, time, l.units),
-    }
-}
-
 // The streak of no units.
 fn none(start: Cpu, clock: u64, residue: u32) -> Streak
     ensures { λ r. ⌜ r ≡ unbegun start clock residue ⌝ }
 {
     let psw = start.psw;
+    let control = start.control;
     let general = start.general;
     Streak {
         psw,
         timer: start.timer,
         clock,
+        control,
         general,
         units: 0,
         residue,
@@ -141,8 +62,9 @@ fn none(start: Cpu, clock: u64, residue: u32) -> Streak
 }
 
 // Units on kept blocks, as long as blocks can be kept and instructions done there, at most budget of them, and up to the first before
-// which the list could come to anything but the instruction, or at whose end the interval timer's word falls. The blocks are kept anew
-// in each streak, so that what other units store cannot matter.
+// which the list could come to anything but the instruction, or at whose end the interval timer's word falls. A turn is a lap, one unit
+// that a lap does not do, or a block or the prefix page's place kept. The blocks are kept anew in each streak, so that what other units
+// store cannot matter.
 fn run_streak(
     storage: &mut [u8],
     keys: &[u8],
@@ -160,7 +82,7 @@ fn run_streak(
         × (timed ≡ active guest) × (residue < period) × (time ≤ mostTime) ⌝ }
     ensures { λ r. ⌜ (r .units ≤ budget) × Paced designation guest clock time budget start requested residue (now (storage .entry)) (now (keys .entry)) r (now (storage .exit)) ⌝ }
 {
-    let control = start.control;
+    let mut control = start.control;
     let cr0 = control.words[0];
     let psw = start.psw;
     let rising = calm::rising(timed, residue, time, budget);
@@ -168,91 +90,168 @@ fn run_streak(
     if horizon == 0 {
         return none(start, clock, residue);
     }
+    let text = cpu::wrapped(psw, cpu::instruction_address(psw) as u64);
     let mut kept = [pages::NO_BLOCK; 32];
     let mut guard = [0; 64];
-    let text = cpu::wrapped(psw, cpu::instruction_address(psw) as u64);
-    if !pages::keep(
-        storage,
-        keys,
-        &mut guard[..],
-        &mut kept,
-        designation,
-        guest,
-        psw,
-        control,
-        false,
-        text,
-    ) {
-        return none(start, clock, residue);
-    }
     let ones: [u32; 16] = [0, 1, 1, 1, 1, 1, 1, 1, 1, 1, 1, 1, 1, 1, 1, 1];
     let mut general = start.general;
-    let first = lap::units(storage, &mut general.words, &ones, &kept, psw, horizon);
-    let after = charged(timed, time, psw, start.timer, clock, residue, first);
-    let mut psw = after.psw;
-    let mut timer = after.timer;
-    let mut now = after.clock;
-    let mut rest = after.residue;
-    let mut units = first.units;
-    let mut want = first.want;
-    let mut a = first.a;
-    let mut tries = tries_after(0, units);
-    let mut most = most_after(horizon - units, want, tries);
-    while most > 0 {
-        if !keep_wanted(
-            storage,
-            keys,
-            &mut guard[..],
-            &mut kept,
-            designation,
-            guest,
-            psw,
-            control,
-            want,
-            a,
-        ) {
-            return Streak {
-                psw,
-                timer,
-                clock: now,
-                general,
-                units,
-                residue: rest,
-            };
+    let mut s = Stand {
+        left: psw.left,
+        right: psw.right,
+        system370: psw.system370,
+        timer: start.timer,
+        clock,
+        residue,
+        units: 0,
+        most: horizon,
+        want: lap::FETCH,
+        a: text,
+        area: area::NO_AREA,
+        tries: 0,
+    };
+    while s.most > 0 {
+        let psw = Psw {
+            left: s.left,
+            right: s.right,
+            system370: s.system370,
+        };
+        if s.want == lap::DONE {
+            let l = lap::units(storage, &mut general.words, &ones, &kept, psw, s.most);
+            s = turns::lapped(timed, time, s, l);
+        } else {
+            let cr0 = control.words[0];
+            let cr1 = control.words[1];
+            if s.want == lap::SPECIAL {
+                let r = single::unit(
+                    storage,
+                    &mut control.words,
+                    &general.words,
+                    &ones,
+                    &kept,
+                    s.area,
+                    guest,
+                    s.clock,
+                    psw,
+                    s.timer,
+                );
+                if r.want == special::LAP {
+                    let l = lap::units(storage, &mut general.words, &ones, &kept, psw, s.most);
+                    s = turns::lapped(timed, time, s, l);
+                } else {
+                    if r.want == special::TESTS {
+                        let x = exceptions::tested(
+                            storage,
+                            &general.words,
+                            &kept,
+                            s.area,
+                            guest,
+                            psw,
+                            s.timer,
+                        );
+                        s = turns::passed(
+                            &mut guard,
+                            &mut kept,
+                            &control.words,
+                            guest,
+                            requested,
+                            timed,
+                            time,
+                            budget,
+                            cr0,
+                            cr1,
+                            s,
+                            x,
+                        );
+                    } else {
+                        s = turns::passed(
+                            &mut guard,
+                            &mut kept,
+                            &control.words,
+                            guest,
+                            requested,
+                            timed,
+                            time,
+                            budget,
+                            cr0,
+                            cr1,
+                            s,
+                            r,
+                        );
+                    }
+                }
+            } else {
+                if s.want >= turns::DENIED {
+                    let x = denials::unit(
+                        storage,
+                        keys,
+                        &control.words,
+                        &general.words,
+                        &ones,
+                        &kept,
+                        s.area,
+                        designation,
+                        guest,
+                        psw,
+                        s.timer,
+                        s.want % 2 == 1,
+                        s.a,
+                    );
+                    s = turns::passed(
+                        &mut guard,
+                        &mut kept,
+                        &control.words,
+                        guest,
+                        requested,
+                        timed,
+                        time,
+                        budget,
+                        cr0,
+                        cr1,
+                        s,
+                        x,
+                    );
+                } else {
+                    s = turns::keep_turn(
+                        storage,
+                        keys,
+                        &mut guard[..],
+                        &mut kept,
+                        &control.words,
+                        designation,
+                        guest,
+                        s,
+                    );
+                }
+            }
         }
-        let l = lap::units(storage, &mut general.words, &ones, &kept, psw, most);
-        let then = charged(timed, time, psw, timer, now, rest, l);
-        psw = then.psw;
-        timer = then.timer;
-        now = then.clock;
-        rest = then.residue;
-        units += l.units;
-        want = l.want;
-        a = l.a;
-        tries = tries_after(tries, l.units);
-        most = most_after(most - l.units, want, tries);
     }
+    let psw = Psw {
+        left: s.left,
+        right: s.right,
+        system370: s.system370,
+    };
     Streak {
         psw,
-        timer,
-        clock: now,
+        timer: s.timer,
+        clock: s.clock,
+        control,
         general,
-        units,
-        residue: rest,
+        units: s.units,
+        residue: s.residue,
     }
 }
 
 // The state after a streak. The PSW's architecture is that of the run.
 pub fn after_streak(cpu: Cpu, streak: Streak) -> Cpu
-    ensures { λ r. ⌜ r ≡ ofMode (cpu .psw .system370) (afterStreak cpu streak) ⌝ }
+    ensures { λ r. ⌜ r ≡ ofMode (cpu .psw .system370) (afterStreak streak) ⌝ }
 {
     let psw = Psw {
         left: streak.psw.left,
         right: streak.psw.right,
         system370: cpu.psw.system370,
     };
+    let control = streak.control;
     let general = streak.general;
-    let control = cpu.control;
     Cpu {
         psw,
         timer: streak.timer,

@@ -99,6 +99,42 @@ impl Machine {
             Machine::XaLarger => (number % 8 == 0).then(|| Rng::new(seed ^ 0x0208_0000_0000, number)),
         }
     }
+
+    /// A record that has length, version and mode, and else zeros.
+    fn record(self) -> Vec<u8> {
+        let mut record = vec![0; if self == Machine::Xa { 200 } else { 208 }];
+        record[1] = record.len() as u8;
+        record[2] = if self == Machine::Xa { 1 } else { 2 };
+        record[4] = if self == Machine::System370 { 0x04 } else { 0x08 };
+        record
+    }
+
+    /// A time per unit: the least ones, the greatest, any between.
+    fn time(self, rng: &mut Rng) -> u32 {
+        let time = match rng.below(100) {
+            0..=21 => 1,
+            22..=26 => 2,
+            27..=54 => rng.range(2, 100),
+            55..=64 => 4096,
+            65..=72 => 1_048_576,
+            73..=76 => 1_048_575,
+            _ => rng.range(1, 1_048_576),
+        };
+        // With the greatest time the word of the interval timer falls every 13 units or 14.
+        if self == Machine::System370 && rng.percent(35) {
+            1_048_576
+        } else {
+            time
+        }
+    }
+}
+
+/// How a guest's PSWs have storage addressed: DAT, addresses of 31 bits, the access key.
+#[derive(Clone, Copy, PartialEq, Eq)]
+struct Modes {
+    dat: bool,
+    wide: bool,
+    key: u8,
 }
 
 /// What cases the caller wants.
@@ -214,14 +250,7 @@ impl<'a> Builder<'a> {
         if rng.percent(50) {
             rng.fill(&mut storage);
         }
-        let mut record = vec![0; 200];
-        record[1] = 200;
-        record[2] = 1;
-        if machine != Machine::Xa {
-            record.resize(208, 0);
-            record[1] = 208;
-            record[2] = 2;
-        }
+        let record = machine.record();
         let dat = rng.percent(55) && machine != Machine::System370;
         let wide = rng.percent(60) && machine != Machine::System370;
         let host_clean = rng.percent(70);
@@ -1345,17 +1374,7 @@ impl<'a> Builder<'a> {
     }
 
     fn choose_time(&mut self) {
-        let time = match self.rng.below(100) {
-            0..=21 => 1,
-            22..=26 => 2,
-            27..=54 => self.rng.range(2, 100),
-            55..=64 => 4096,
-            65..=72 => 1_048_576,
-            73..=76 => 1_048_575,
-            _ => self.rng.range(1, 1_048_576),
-        };
-        // With the greatest time the word of the interval timer falls every 13 units or 14.
-        let time = if self.system_370() && self.rng.percent(35) { 1_048_576 } else { time };
+        let time = self.machine.time(self.rng);
         self.case.time = time;
         let units = self.case.budget.min(20);
         let timer = self.timer_value(time, units);

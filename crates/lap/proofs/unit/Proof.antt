@@ -1,22 +1,17 @@
 -- `lap::unit` meets its contract.
 -- Assumes nothing.
-use Prim.Native.Nat.{ℕ, _+_, _*_, _/_, _%_, _^_, _<_}
+use Prim.Native.Nat.{ℕ, _+_, _/_, _%_, _<_}
 use native.Mathlib.Omega.{arith}
 use mathlib.Core.Path.{_≡_, refl, ap, sym, subst, _∙_}
-use mathlib.Core.Bool.{true, false, not, _&&_}
-use mathlib.Core.List.{List}
+use mathlib.Core.Bool.{not, _&&_}
 use borrow.Author.Needs.{needs}
 use borrow.Author.Tests.{eq-eqb, ne-eqb}
-use lib.Dec.{eqb}
 use lib.ListN.{getD}
-use mir.Syntax.{w8, w32}
-use mir.Val.{Fits}
 use Rattle.machine.specs.Words.{halfAt}
 use Rattle.machine.specs.Execute.{sumOf, sumOverflows, differenceOf, differenceOverflows, selected}
 use Rattle.sums.specs.Summing.{codeIn, Says}
-use Rattle.lap.specs.declared.Step.{Step}
-use Rattle.lap.specs.Stepping.{cut, totalOf, stepTo, sumStep, branchStep, loadStep, storeStep}
-use Rattle.lap.proofs.Turning.{Turned, wants, turned-lr, turned-ar, turned-sr, turned-bcr-stays, turned-bcr, turned-la, turned-bc-stays, turned-bc, turned-l, turned-st}
+use Rattle.lap.specs.Stepping.{cut, totalOf, stepTo, sumStep, branchStep, loadStep}
+use Rattle.lap.proofs.Turning.{wants, turned-lr, turned-ar, turned-sr, turned-bcr-stays, turned-bcr, turned-la, turned-bc-stays, turned-bc, turned-l, turned-st}
 use Rattle.lap.proofs.unit.Statement.{statement}
 use Rattle.lap.proofs.unit.Tie as tie
 

@@ -1,6 +1,6 @@
 -- `lap::units` meets its contract.
 -- Assumes nothing.
-use Prim.Native.Nat.{ℕ, suc, _+_, _-_, _^_, _≤_, _<_}
+use Prim.Native.Nat.{ℕ, suc, _+_, _-_, _≤_, _<_}
 use native.Mathlib.Omega.{arith}
 use mathlib.Core.Path.{_≡_, refl, ap, sym, subst, _∙_}
 use mathlib.Core.List.{List}
@@ -10,18 +10,16 @@ use borrow.Author.Needs.{needs}
 use borrow.Author.Tests.{not-false}
 use mir.Syntax.{w32}
 use mir.Val.{Fits}
-use Rattle.machine.specs.Record.{Sixteen}
 use Rattle.registers.proofs.Ending.{small-code}
 use Rattle.psws.specs.Psws.{state, pswAt}
 use Rattle.sums.specs.Summing.{codeIn}
-use Rattle.sums.proofs.Codes.{small-code-in}
 use Rattle.blocks.specs.Keeping.{Stands}
 use Rattle.blocks.proofs.Holding.{inside-on}
 use Rattle.lap.specs.declared.Landing.{Landing}
 use Rattle.lap.specs.declared.Lap.{Lap}
 use Rattle.lap.specs.Stepping.{cut, Lands}
 use Rattle.lap.specs.Lapping.{Laps}
-use Rattle.lap.proofs.Lapping.{Lapped, Reached, Text, standing, begun, nowhere-gone, landed, turned, jumped-to, onward, stands-here, no-target, target-found, cut-standing, jump-landed, jump-cut, laps-so, cut-cut, lapped-as}
+use Rattle.lap.proofs.Lapping.{Lapped, Reached, standing, begun, nowhere-gone, landed, turned, jumped-to, onward, stands-here, no-target, target-found, cut-standing, jump-landed, jump-cut, laps-so, cut-cut, lapped-as}
 use Rattle.lap.proofs.units.Statement.{statement}
 use Rattle.lap.proofs.units.Tie as tie
 

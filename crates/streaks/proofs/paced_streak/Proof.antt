@@ -1,7 +1,7 @@
 -- `streaks::paced_streak` meets its contract.
 -- Assumes nothing.
 use borrow.Author.Needs.{needs}
-use Rattle.streaks.proofs.Streaking.{none-streak}
+use Rattle.streaks.proofs.Streaking.{course, none-streak}
 use Rattle.streaks.proofs.paced_streak.Statement.{statement}
 use Rattle.streaks.proofs.paced_streak.Tie as tie
 
@@ -12,7 +12,7 @@ returns : tie.Need-returns
 returns c =
     let start = c .before .before .before .before in
     let a = start .args in
-    none-streak (a .designation) (a .guest) (a .clock) (a .time) (a .budget) (a .start) (a .requested) (a .residue) _ _ (start .pre .2) (start .pre .5) (c .none .result) (c .none .ensures)
+    none-streak (course (a .designation) (a .guest) (a .clock) (a .time) (a .budget) (a .start) (a .requested) (a .residue) _ _) (start .pre .2) (start .pre .5) (c .none .result) (c .none .ensures)
 
 none-requires-2 : tie.Need-none-requires-2
 none-requires-2 c κs = search needs
@@ -21,7 +21,7 @@ returns-2 : tie.Need-returns-2
 returns-2 c =
     let start = c .before .before .before .before .before in
     let a = start .args in
-    none-streak (a .designation) (a .guest) (a .clock) (a .time) (a .budget) (a .start) (a .requested) (a .residue) _ _ (start .pre .2) (start .pre .5) (c .none2 .result) (c .none2 .ensures)
+    none-streak (course (a .designation) (a .guest) (a .clock) (a .time) (a .budget) (a .start) (a .requested) (a .residue) _ _) (start .pre .2) (start .pre .5) (c .none2 .result) (c .none2 .ensures)
 
 run-streak-requires : tie.Need-run-streak-requires
 run-streak-requires c κs = search needs

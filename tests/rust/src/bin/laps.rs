@@ -1,11 +1,11 @@
 //! laps [CASES] [SEED]: runs of the library against the model on guests for a run that does many units at a time on
-//! kept translations: whole, in random pieces, and with every budget up to 70. Of some cases the units are looked at
-//! one by one for what they are examples of.
+//! kept translations: whole, in random pieces, with every budget up to 70, and on from exits. Of some cases the units
+//! are looked at one by one for what they are examples of.
 
 use drevokas_tests::ffi::{self, Packed};
 use drevokas_tests::generate::{laps, Case, Machine, Rng};
 use drevokas_tests::guarded::Guarded;
-use drevokas_tests::model::{self, Answer, Run, SVC_INTERRUPTION};
+use drevokas_tests::model::{self, Answer, Run, Walk, SVC_INTERRUPTION};
 use drevokas_tests::report;
 use std::collections::{BTreeMap, BTreeSet};
 use std::process::exit;
@@ -15,12 +15,14 @@ type Tally = BTreeMap<String, u64>;
 
 /// Every so many-th case is run in pieces, with every budget, and unit by unit for the tally.
 const IN_PIECES: u64 = 2;
-const EVERY_BUDGET: u64 = 128;
+const EVERY_BUDGET: u64 = 48;
 const WATCHED: u64 = 16;
 const MOST_BUDGET: u32 = 70;
+/// A run is gone on with from so many exits.
+const EXITS: u32 = 3;
 
 fn main() {
-    let (cases, seed) = report::arguments(180_000);
+    let (cases, seed) = report::arguments(170_000);
     println!("laps: {cases} cases, seed {seed}");
     let start = Instant::now();
     let mut tally = Tally::new();
@@ -29,13 +31,13 @@ fn main() {
         for machine in report::MACHINES {
             let Some(mut rng) = machine.rng(seed ^ 0x1A90_0000_0000, number) else { continue };
             let case = laps::case(&mut rng, machine);
-            let Some(end) = examine(&mut rng, &case, number) else {
+            let Some(case_units) = examine(&mut rng, &case, number) else {
                 println!("difference in case {number} of seed {seed}, {machine:?}");
                 report::keep_case(&case, "difference.case");
                 exit(1);
             };
             done += 1;
-            units += end.units as u64;
+            units += case_units as u64;
             if number % WATCHED == 0 && case.budget < 1000 {
                 watch(&case, machine, &mut tally);
             }
@@ -50,30 +52,38 @@ fn main() {
 // ---------------------------------------------------------------------------------------------------------------
 // What must hold.
 
-/// The end of the whole run, if all agree.
-fn examine(rng: &mut Rng, case: &Case, number: u64) -> Option<Run> {
-    let (end, left) = compare(case, case.budget)?;
+/// The units of the whole run and of what is gone on with, if all agree.
+fn examine(rng: &mut Rng, case: &Case, number: u64) -> Option<u32> {
+    let (mut end, mut left) = compare(case)?;
     if number % IN_PIECES == 0 && !same_in_pieces(rng, case, &end, &left) {
         return None;
     }
-    if number % EVERY_BUDGET == 0 {
-        for budget in 1..=MOST_BUDGET {
-            if compare(case, budget).is_none() {
-                println!("with budget {budget}");
-                return None;
-            }
-        }
+    if number % EVERY_BUDGET == 0 && !same_with_every_budget(case) {
+        return None;
     }
-    Some(end)
+    let mut units = end.units;
+    for _ in 0..EXITS {
+        if !attended(&mut left.record, end.answer) {
+            break;
+        }
+        go_on(&mut left, end.units);
+        let Some(further) = compare(&left) else {
+            println!("on from an exit after {units} units");
+            return None;
+        };
+        (end, left) = further;
+        units += end.units;
+    }
+    Some(units)
 }
 
 /// The model's end, and what it leaves, where the library gives and leaves the same.
-fn compare(case: &Case, budget: u32) -> Option<(Run, Case)> {
+fn compare(case: &Case) -> Option<(Run, Case)> {
     let mut left = case.clone();
     let Case { record, storage, keys, .. } = &mut left;
-    let end = model::run(record, storage, keys, case.designation, case.clock, case.time, budget);
+    let end = model::run(record, storage, keys, case.designation, case.clock, case.time, case.budget);
     let mut lent = Lent::new(case);
-    let given = lent.run(case.clock, budget);
+    let given = lent.run(case.clock, case.budget);
     (lent.is_like(&left) & same_answer(given, ffi::pack(end.answer, end.units))).then_some((end, left))
 }
 
@@ -83,6 +93,29 @@ fn same_answer(given: Packed, owed: Packed) -> bool {
         println!("{}", report::show_answer("model  ", owed));
     }
     given == owed
+}
+
+/// What a host does before it goes on after an exit; whether it goes on.
+fn attended(record: &mut [u8], answer: Answer) -> bool {
+    match answer {
+        // The instruction counts as simulated.
+        Answer::Intercepted(4 | 8 | 44) => {}
+        Answer::Intercepted(16) => record[3] &= !0x01,
+        Answer::Intercepted(20) if record[55] == 0x04 => record[32..40].fill(0xFF),
+        Answer::Intercepted(20) if record[55] == 0x05 => record[24] = 0x7F,
+        Answer::Intercepted(20) => {}
+        Answer::Intercepted(24) => record[3] &= !0x02,
+        Answer::Intercepted(28) => record[17] &= !0x02,
+        Answer::Intercepted(40) => record[3] &= !0x04,
+        _ => return false,
+    }
+    true
+}
+
+/// Clock and budget after so many units.
+fn go_on(case: &mut Case, units: u32) {
+    case.clock = case.clock.wrapping_add(units as u64 * case.time as u64);
+    case.budget -= units;
 }
 
 /// A guest lent to the library within margins.
@@ -138,6 +171,29 @@ fn same_in_pieces(rng: &mut Rng, case: &Case, end: &Run, left: &Case) -> bool {
     good
 }
 
+/// Whether each budget gives what the model gives in as many runs of one unit. Past an exit some are enough.
+fn same_with_every_budget(case: &Case) -> bool {
+    let mut left = case.clone();
+    let (mut answer, mut units) = (Answer::BudgetUsed, 0);
+    for budget in 1..=MOST_BUDGET {
+        if answer == Answer::BudgetUsed {
+            let clock = case.clock.wrapping_add(units as u64 * case.time as u64);
+            let Case { record, storage, keys, .. } = &mut left;
+            let end = model::run(record, storage, keys, case.designation, clock, case.time, 1);
+            (answer, units) = (end.answer, units + end.units);
+        } else if budget > units + 4 {
+            break;
+        }
+        let mut lent = Lent::new(case);
+        let given = lent.run(case.clock, budget);
+        if !(lent.is_like(&left) & same_answer(given, ffi::pack(answer, units))) {
+            println!("with budget {budget}");
+            return false;
+        }
+    }
+    true
+}
+
 // ---------------------------------------------------------------------------------------------------------------
 // What occurred.
 
@@ -154,6 +210,12 @@ struct Watch {
     stored: BTreeMap<u32, u32>,
     /// Units of the eight plain instructions in a row.
     stretch: u32,
+    /// What the last unit was, and whether the interval timer's word fell in it.
+    last: String,
+    fell: bool,
+    /// The new PSWs of SVC and of program interruptions, and the frame of the areas, as last met.
+    new_psws: BTreeMap<bool, Vec<u8>>,
+    areas: Option<u32>,
 }
 
 /// What a translation goes by, beside storage: the PSW's bits that guard accesses, and CR0 and CR1.
@@ -163,43 +225,32 @@ fn state(record: &[u8]) -> State {
     ([record[16] & 0x04, record[17] & 0xF8], record[72..80].try_into().unwrap())
 }
 
-/// Runs the case by the model, unit by unit.
+/// Runs the case by the model, unit by unit, and on from exits.
 fn watch(case: &Case, machine: Machine, tally: &mut Tally) {
     let mut watch = Watch::default();
     let mut now = case.clone();
-    let mut unit = 0;
+    let (mut unit, mut exits) = (0, 0);
     loop {
-        let before = now.clone();
+        let before = Unit::of(&now);
         let clock = case.clock.wrapping_add(unit as u64 * case.time as u64);
         let Case { record, storage, keys, .. } = &mut now;
         let end = model::run(record, storage, keys, case.designation, clock, case.time, 1);
         if end.units == 0 || unit == case.budget {
-            let name = exit_name(&now.record, end.answer);
-            let place = match unit {
-                _ if unit == case.budget => "one after the last unit",
-                0 => "at the first unit",
-                _ if unit + 1 == case.budget => "at the last unit",
-                _ => "inside",
-            };
-            watch.names.insert(format!("{name}, {place}"));
+            watch.exit(&before, &now.record, &end, unit, case.budget);
+            exits += 1;
+            if unit < case.budget && exits <= EXITS && attended(&mut now.record, end.answer) {
+                continue;
+            }
             break;
         }
-        watch.unit(&before, &now, &end, unit);
+        let kind = watch.unit(&before, &now, &end, unit);
+        *tally.entry(format!("units of {kind}")).or_insert(0) += 1;
         unit += 1;
     }
     for name in watch.names {
         *tally.entry(name).or_insert(0) += 1;
     }
     *tally.entry(format!("cases of {machine:?}")).or_insert(0) += 1;
-}
-
-fn exit_name(record: &[u8], answer: Answer) -> String {
-    match answer {
-        Answer::Intercepted(20) => format!("interception 20, {:02x}{:02x} hex", record[54], record[55]),
-        Answer::Intercepted(code) => format!("interception {code}"),
-        Answer::HostFault(code, ..) => format!("host fault {code:x} hex"),
-        _ => "a further unit".to_string(),
-    }
 }
 
 fn is_system_370(record: &[u8]) -> bool {
@@ -234,8 +285,33 @@ fn place(case: &Case, address: u32, store: bool) -> Option<u32> {
     }
 }
 
+/// The frame of a guest real address: that of areas, or of a table.
+fn frame(case: &Case, real: u32) -> Option<u32> {
+    let mut record = case.record.clone();
+    record[16..24].copy_from_slice(&[0, 0, 0, 0, 0x80, 0, 0, 0]);
+    match model::translate(&record, &case.storage, &case.keys, case.designation, real, 0) {
+        Answer::Good(place) => Some(place >> 12),
+        _ => None,
+    }
+}
+
+/// The frame of the host's page table that the areas are behind.
+fn frame_of_host_pages(case: &Case) -> u32 {
+    let address = model::origin_bytes(&case.record) + model::prefix(&case.record);
+    let entry = (case.designation & 0x7FFF_F000) + 4 * (address >> 20);
+    model::word(&case.storage, entry as usize) >> 12
+}
+
+/// The frames of the guest's segment table and of its first page table.
+fn frames_of_guest_tables(case: &Case) -> [Option<u32>; 2] {
+    let segments = model::word(&case.record, 76) & 0x7FFF_F000;
+    let Some(table) = frame(case, segments) else { return [None; 2] };
+    let entry = model::word(&case.storage, (table << 12) as usize);
+    [Some(table), frame(case, entry & 0x7FFF_FFC0)]
+}
+
 /// How long the operand is, and whether it is stored.
-fn operand_of(text: &[u8]) -> Option<(u32, bool)> {
+fn length_of_operand(text: &[u8]) -> Option<(u32, bool)> {
     let registers = 4 * ((text[1] & 15).wrapping_sub(text[1] >> 4) as u32 % 16 + 1);
     match (text[0], text[1]) {
         (0x50, _) => Some((4, true)),
@@ -248,99 +324,226 @@ fn operand_of(text: &[u8]) -> Option<(u32, bool)> {
     }
 }
 
-const NAMES: [(u8, &str); 12] = [
-    (0x07, "BCR"),
-    (0x18, "LR"),
-    (0x1A, "AR"),
-    (0x1B, "SR"),
-    (0x41, "LA"),
-    (0x47, "BC"),
-    (0x50, "ST"),
-    (0x58, "L"),
-    (0x82, "LPSW"),
-    (0xB2, "STCK, SPT or STPT"),
-    (0xB6, "STCTL"),
-    (0xB7, "LCTL"),
-];
+const PLAIN: [(u8, &str); 8] =
+    [(0x07, "BCR"), (0x18, "LR"), (0x1A, "AR"), (0x1B, "SR"), (0x41, "LA"), (0x47, "BC"), (0x50, "ST"), (0x58, "L")];
+
+/// The others that end without an interruption.
+const OTHERS: [&str; 6] = ["LPSW", "STCTL", "LCTL", "STCK", "SPT", "STPT"];
+
+fn name_of(text: &[u8]) -> Option<&'static str> {
+    let name = match (text[0], text[1]) {
+        (0x0A, _) => "SVC",
+        (0x82, _) => "LPSW",
+        (0xB6, _) => "STCTL",
+        (0xB7, _) => "LCTL",
+        (0xB2, 0x05) => "STCK",
+        (0xB2, 0x08) => "SPT",
+        (0xB2, 0x09) => "STPT",
+        (first, _) => return PLAIN.iter().find(|&&(code, _)| code == first).map(|&(_, name)| name),
+    };
+    Some(name)
+}
+
+/// A unit that is to be done: the state that it meets, its text and its operand.
+struct Unit {
+    record: Vec<u8>,
+    keys: Vec<u8>,
+    address: u32,
+    /// Places and bytes, as far as they can be fetched.
+    text: Vec<(u32, u8)>,
+    /// Whether that is all of it.
+    whole: bool,
+    operand: Option<Operand>,
+}
+
+struct Operand {
+    address: u32,
+    length: u32,
+    store: bool,
+    /// The place of each byte that can be accessed.
+    places: Vec<Option<u32>>,
+}
+
+impl Unit {
+    fn of(case: &Case) -> Unit {
+        let (record, keys) = (case.record.clone(), case.keys.clone());
+        let address = model::word(&record, 20) & if is_system_370(&record) { 0x00FF_FFFF } else { 0x7FFF_FFFF };
+        let mut text: Vec<(u32, u8)> = Vec::new();
+        let mut length = 2;
+        while (text.len() as u32) < length {
+            let Some(place) = place(case, address.wrapping_add(text.len() as u32), false) else { break };
+            text.push((place, case.storage[place as usize]));
+            length = [2, 4, 4, 6][text[0].1 as usize >> 6];
+        }
+        let whole = text.len() as u32 == length;
+        let mut unit = Unit { record, keys, address, text, whole, operand: None };
+        unit.operand = unit.operand(case);
+        unit
+    }
+
+    fn bytes(&self) -> Vec<u8> {
+        self.text.iter().map(|&(_, byte)| byte).collect()
+    }
+
+    fn operand(&self, case: &Case) -> Option<Operand> {
+        let (record, bytes) = (&self.record, self.bytes());
+        let (length, store) = if self.whole { length_of_operand(&bytes)? } else { return None };
+        let base = |field: u8| if field == 0 { 0 } else { model::word(record, 136 + 4 * field as usize) };
+        let index = if [0x50, 0x58].contains(&bytes[0]) { base(bytes[1] & 15) } else { 0 };
+        let displacement = model::halfword(&bytes, 2) & 0xFFF;
+        let address = cut(record, base(bytes[2] >> 4).wrapping_add(index).wrapping_add(displacement));
+        let places = (0..length).map(|offset| place(case, address.wrapping_add(offset), store)).collect();
+        Some(Operand { address, length, store, places })
+    }
+
+    /// What an exception is of.
+    fn cause(&self) -> &'static str {
+        match () {
+            _ if model::psw_is_malformed(&self.record) => "a PSW",
+            _ if self.address % 2 != 0 => "an odd address",
+            _ if !self.whole => "a text",
+            _ => name_of(&self.bytes()).unwrap_or("another operation"),
+        }
+    }
+}
 
 impl Watch {
     fn note(&mut self, name: impl Into<String>) {
         self.names.insert(name.into());
     }
 
-    /// A completed unit.
-    fn unit(&mut self, before: &Case, after: &Case, end: &Run, unit: u32) {
-        let record = &before.record;
+    /// A run's end: the last unit of its budget, or an exit.
+    fn exit(&mut self, before: &Unit, after: &[u8], end: &Run, unit: u32, budget: u32) {
+        if unit == budget && unit > 0 {
+            self.note(format!("last unit of the budget, {}", self.last));
+        }
+        let place = match unit {
+            _ if unit == budget => "one after the last unit",
+            0 => "at the first unit",
+            _ if unit + 1 == budget => "at the last unit",
+            _ => "inside",
+        };
+        let name = match end.answer {
+            Answer::Intercepted(20) => format!("interception 20, {:02x}{:02x} hex", after[54], after[55]),
+            Answer::Intercepted(code) => format!("interception {code}"),
+            Answer::HostFault(code, ..) => format!("host fault {code:x} hex"),
+            _ => "a further unit".to_string(),
+        };
+        self.note(format!("{name}, {place}"));
+        match end.answer {
+            Answer::Intercepted(20) if unit > 0 => self.note(format!("{name}, after {}", self.last)),
+            Answer::Intercepted(4) => self.note(format!("interception 4 of {}", before.cause())),
+            Answer::Intercepted(8) => self.note(format!("interception 8, program {:x} hex", after[55])),
+            Answer::HostFault(code, ..) if end.events.walk == Some(Walk::Area) => {
+                self.note(format!("host fault {code:x} hex at an area"));
+            }
+            _ => {}
+        }
+    }
+
+    /// A completed unit. The answer is what it was.
+    fn unit(&mut self, before: &Unit, after: &Case, end: &Run, unit: u32) -> String {
         if before.keys != after.keys {
             let changed = before.keys.iter().zip(&after.keys).any(|(old, new)| (old ^ new) & 0x02 != 0);
             self.note(if changed { "change bit set" } else { "reference bit set" });
         }
-        if end.events.falls > 0 {
-            self.note("the interval timer's word falls");
-        }
-        let address = model::word(record, 20) & if is_system_370(record) { 0x00FF_FFFF } else { 0x7FFF_FFFF };
-        let text: Vec<(u32, u8)> = (0..4)
-            .map_while(|offset| place(before, address.wrapping_add(offset), false))
-            .map(|place| (place, before.storage[place as usize]))
-            .collect();
-        let interruption = end.events.interruptions.first();
-        if let Some(&(_, code)) = interruption {
-            let name = if code == SVC_INTERRUPTION { "SVC".to_string() } else { format!("program {code:x} hex") };
-            self.note(format!("interruption, {name}, {}", form(record)));
-        }
-        let plain = text.len() == 4 && [0x07, 0x18, 0x1A, 0x1B, 0x41, 0x47, 0x50, 0x58].contains(&text[0].1);
+        let interruption = end.events.interruptions.first().map(|&(_, code)| code);
+        let plain = before.whole && PLAIN.iter().any(|&(code, _)| code == before.text[0].1);
         self.stretch = if plain && interruption.is_none() { self.stretch + 1 } else { 0 };
         if [16, 64].contains(&self.stretch) {
             let stretch = self.stretch;
             self.note(format!("{stretch} plain units in a row"));
         }
-        if text.len() == 4 && interruption.is_none() {
-            self.instruction(before, after, address, &text, unit);
+        let kind = match interruption {
+            Some(SVC_INTERRUPTION) => "SVC".to_string(),
+            Some(code) => format!("program {code:x} hex"),
+            None => before.cause().to_string(),
+        };
+        match interruption {
+            Some(code) => self.interruption(before, after, code, &kind),
+            None => self.instruction(before, after, unit),
+        }
+        let falls = end.events.falls > 0;
+        if falls {
+            self.note("the interval timer's word falls");
+            self.note(format!("the interval timer's word falls in a unit of {kind}"));
+        }
+        if interruption.is_some() && self.fell {
+            self.note("the interval timer's word falls one unit before an interruption");
+        }
+        if falls && (self.last == "SVC" || self.last.starts_with("program")) {
+            self.note("the interval timer's word falls one unit after an interruption");
+        }
+        (self.last, self.fell) = (kind.clone(), falls);
+        kind
+    }
+
+    fn interruption(&mut self, before: &Unit, after: &Case, code: u8, kind: &str) {
+        let record = &before.record;
+        self.note(format!("interruption, {kind}, {}", form(record)));
+        if code != SVC_INTERRUPTION {
+            self.note(format!("{kind} of {}", before.cause()));
+        }
+        self.changed_psw("interruption", record, &after.record);
+        let new_psw = after.record[16..24].to_vec();
+        let last = self.new_psws.insert(code == SVC_INTERRUPTION, new_psw.clone());
+        if last.is_some_and(|last| last != new_psw) {
+            self.note("interruption with another new PSW than before");
+        }
+        if model::prefix(record) != 0 {
+            self.note("interruption with a prefix");
+        }
+        let Some(areas) = frame(after, 0) else { return };
+        let dat = !is_system_370(record) && record[16] & 0x04 != 0;
+        let held = [
+            ("moved by a store", self.areas.is_some_and(|last| last != areas)),
+            ("stored into", self.stored.keys().any(|&place| place >> 12 == areas)),
+            ("among texts", self.texts.keys().any(|&place| place >> 12 == areas)),
+            ("among the host's page entries", frame_of_host_pages(after) == areas),
+            ("among the guest's entries", dat && frames_of_guest_tables(after).contains(&Some(areas))),
+        ];
+        for (name, _) in held.into_iter().filter(|&(_, holds)| holds) {
+            self.note(format!("interruption with areas {name}"));
+        }
+        self.areas = Some(areas);
+    }
+
+    /// An instruction that ended without an interruption.
+    fn instruction(&mut self, before: &Unit, after: &Case, unit: u32) {
+        let (record, address, bytes) = (&before.record, before.address, before.bytes());
+        let form = form(record);
+        let name = before.cause();
+        self.note(format!("{name}, {form}"));
+        self.meet(record, address, before.text[0].0, false);
+        self.ends("text", record, address, bytes.len() as u32);
+        for at in (0..bytes.len()).step_by(2) {
+            self.fetched(before.text[at].0, [bytes[at], bytes[at + 1]], address, unit);
+        }
+        self.branch(record, &after.record, &bytes);
+        if let Some(operand) = &before.operand {
+            self.operand(name, record, operand, unit);
+        }
+        match name {
+            "LPSW" => self.changed_psw("LPSW", record, &after.record),
+            "LCTL" => self.changed_controls(record, &after.record, bytes[1]),
+            "STCTL" if bytes[1] & 15 < bytes[1] >> 4 => self.note("STCTL from 15 on to 0"),
+            _ => {}
         }
     }
 
-    fn instruction(&mut self, before: &Case, after: &Case, address: u32, text: &[(u32, u8)], unit: u32) {
-        let record = &before.record;
-        let bytes: Vec<u8> = text.iter().map(|&(_, byte)| byte).collect();
-        let form = form(record);
-        let Some(&(_, name)) = NAMES.iter().find(|&&(code, _)| code == bytes[0]) else { return };
-        self.note(format!("{name}, {form}"));
-        let length = if bytes[0] < 0x40 { 2 } else { 4 };
-        self.meet(before, address, text[0].0, false);
-        self.ends("text", record, address, length);
-        for at in [0, 2] {
-            if at < length as usize {
-                self.fetched(text[at].0, [bytes[at], bytes[at + 1]], address, unit);
-            }
+    fn operand(&mut self, name: &str, record: &[u8], operand: &Operand, unit: u32) {
+        let &Operand { address, length, store, .. } = operand;
+        self.ends(&format!("operand of {name}"), record, address, length);
+        if address < 512 {
+            self.note(format!("operand of {name} at a low address"));
         }
-        self.branch(record, &after.record, &bytes);
-        if let Some((length, store)) = operand_of(&bytes) {
-            let base = |field: u8| if field == 0 { 0 } else { model::word(record, 136 + 4 * field as usize) };
-            let index = if [0x50, 0x58].contains(&bytes[0]) { base(bytes[1] & 15) } else { 0 };
-            let displacement = model::halfword(&bytes, 2) & 0xFFF;
-            let operand = cut(record, base(bytes[2] >> 4).wrapping_add(index).wrapping_add(displacement));
-            self.ends(&format!("operand of {name}"), record, operand, length);
-            for offset in 0..length {
-                let Some(place) = place(before, operand.wrapping_add(offset), store) else { continue };
-                if offset == 0 || operand.wrapping_add(offset) % 2048 == 0 {
-                    self.meet(before, cut(record, operand.wrapping_add(offset)), place, store);
-                }
-                if store {
-                    self.stored_over(place, cut(record, operand.wrapping_add(offset)), unit);
-                }
+        for (offset, place) in (0..).zip(&operand.places) {
+            let (Some(place), byte) = (*place, cut(record, address.wrapping_add(offset))) else { continue };
+            if offset == 0 || byte % 2048 == 0 {
+                self.meet(record, byte, place, store);
             }
-        }
-        if bytes[0] == 0x82 {
-            self.loaded_psw(record, &after.record);
-        }
-        if bytes[0] == 0xB7 {
-            for (number, at) in [(0, 72), (1, 76)] {
-                if record[at..at + 4] != after.record[at..at + 4] {
-                    self.note(format!("CR{number} changed, {form}"));
-                }
-            }
-            if bytes[1] & 15 < bytes[1] >> 4 {
-                self.note("LCTL from 15 on to 0");
+            if store {
+                self.stored_over(place, byte, unit);
             }
         }
     }
@@ -351,16 +554,17 @@ impl Watch {
             _ if cut(record, last) != last => format!("{what} over the end of addresses, {}", form(record)),
             _ if address >> 12 != last >> 12 => format!("{what} over a page's end"),
             _ if address >> 11 != last >> 11 => format!("{what} over a block's end"),
+            _ if last & 0x7FF == 0x7FF => format!("{what} up to a block's end"),
             _ => return,
         };
         self.note(name);
     }
 
     /// A block is used: as before, or led elsewhere since.
-    fn meet(&mut self, case: &Case, address: u32, place: u32, store: bool) {
+    fn meet(&mut self, record: &[u8], address: u32, place: u32, store: bool) {
         let kind = if store { "store" } else { "fetch" };
         let block = address >> 11;
-        let (now, place) = (state(&case.record), place >> 11);
+        let (now, place) = (state(record), place >> 11);
         if let Some((old, then)) = self.blocks.insert((store, block), (place, now)) {
             if old != place {
                 let cause = match () {
@@ -414,44 +618,65 @@ impl Watch {
         }
     }
 
-    fn loaded_psw(&mut self, before: &[u8], after: &[u8]) {
+    fn changed_psw(&mut self, what: &str, before: &[u8], after: &[u8]) {
         let changed = |at: usize, bits: u8| (before[at] ^ after[at]) & bits != 0;
         let is_370 = is_system_370(before);
         let held = [
-            ("LPSW changes the key", changed(17, 0xF0)),
-            ("LPSW changes DAT", !is_370 && changed(16, 0x04)),
-            ("LPSW changes the mode", !is_370 && changed(20, 0x80)),
-            ("LPSW changes the form", is_370 && changed(17, 0x08)),
-            ("LPSW changes problem state", changed(17, 0x01)),
-            ("LPSW enters the wait state", changed(17, 0x02)),
-            ("LPSW of a malformed PSW", model::psw_is_malformed(after)),
-            ("LPSW of an odd address", after[23] & 1 != 0),
+            ("changes the key", changed(17, 0xF0)),
+            ("changes DAT", !is_370 && changed(16, 0x04)),
+            ("changes the external mask", changed(16, 0x01)),
+            ("changes the mode", !is_370 && changed(20, 0x80)),
+            ("changes the form", is_370 && changed(17, 0x08)),
+            ("changes problem state", changed(17, 0x01)),
+            ("changes none of bits 0-17", !(changed(16, 0xFF) || changed(17, 0xFF) || changed(18, 0xC0))),
+            ("enters the wait state", changed(17, 0x02)),
+            ("of a malformed PSW", model::psw_is_malformed(after)),
+            ("of an odd address", after[23] & 1 != 0),
         ];
         for (name, _) in held.into_iter().filter(|&(_, holds)| holds) {
+            self.note(format!("{what} {name}"));
+        }
+    }
+
+    fn changed_controls(&mut self, before: &[u8], after: &[u8], range: u8) {
+        for (number, at) in [(0, 72), (1, 76)] {
+            if before[at..at + 4] != after[at..at + 4] {
+                self.note(format!("CR{number} changed, {}", form(before)));
+            }
+        }
+        let [old, new] = [before, after].map(|record| model::word(record, 72));
+        for (bit, name) in [(0x800, "comparator"), (0x400, "CPU timer"), (0x80, "interval timer")] {
+            if (old ^ new) & bit != 0 {
+                self.note(format!("LCTL {} the {name}", if new & bit != 0 { "enables" } else { "disables" }));
+            }
+        }
+        let changes = [
+            ("LCTL changes low-address protection", (old ^ new) >> 28 & 1 != 0),
+            ("LCTL changes the format of DAT", (old ^ new) >> 19 & 0x1F != 0),
+            ("LCTL of the values that are there", before[72..136] == after[72..136]),
+            ("LCTL from 15 on to 0", range & 15 < range >> 4),
+        ];
+        for (name, _) in changes.into_iter().filter(|&(_, holds)| holds) {
             self.note(name);
         }
     }
 }
 
+const FORMS: [&str; 6] = ["DAT off, 24 bits", "DAT off, 31 bits", "DAT on, 24 bits", "DAT on, 31 bits", "BC", "EC"];
+
 /// What must occur.
 fn owed() -> Vec<String> {
     let mut owed: Vec<String> = Vec::new();
-    let forms = ["DAT off, 24 bits", "DAT off, 31 bits", "DAT on, 24 bits", "DAT on, 31 bits", "BC", "EC"];
-    for form in forms {
-        owed.extend(NAMES.iter().map(|(_, name)| format!("{name}, {form}")));
-        owed.extend(["1", "2", "4", "5", "6", "8"].map(|code| format!("interruption, program {code} hex, {form}")));
-        owed.push(format!("interruption, SVC, {form}"));
-        owed.push(format!("CR0 changed, {form}"));
-        owed.push(format!("text over the end of addresses, {form}"));
-        owed.extend(["L", "ST"].map(|name| format!("operand of {name} over the end of addresses, {form}")));
-        if form.starts_with("DAT on") {
-            owed.push(format!("CR1 changed, {form}"));
-            owed.extend(["10", "11", "12"].map(|code| format!("interruption, program {code} hex, {form}")));
-        }
-    }
-    for what in ["text", "operand of L", "operand of ST", "operand of STCK, SPT or STPT", "operand of STCTL"] {
+    owed.extend(owed_by_form());
+    owed.extend(owed_by_interruptions());
+    owed.extend(owed_by_exits());
+    let storing = ["ST", "STCK", "STPT", "STCTL"];
+    for what in ["text", "operand of L", "operand of ST", "operand of STCK", "operand of STCTL", "operand of LCTL"] {
         owed.extend(["block", "page"].map(|end| format!("{what} over a {end}'s end")));
     }
+    owed.extend(["STPT", "SPT", "LPSW"].map(|name| format!("operand of {name} up to a block's end")));
+    owed.extend(storing.map(|name| format!("operand of {name} at a low address")));
+    owed.extend(["LPSW", "SPT", "LCTL"].map(|name| format!("operand of {name} at a low address")));
     for mask in 0..16 {
         owed.extend((0..4).map(|code| format!("mask {mask}, code {code}")));
     }
@@ -460,15 +685,8 @@ fn owed() -> Vec<String> {
         owed.push(format!("{kind} blocks of one entry in turn"));
         owed.push(format!("{kind} block also of the other kind by another address"));
     }
-    for code in ["20, 1004 hex", "20, 1005 hex", "20, 0080 hex"] {
-        let places = ["at the first unit", "inside", "at the last unit", "one after the last unit"];
-        owed.extend(places.map(|place| format!("interception {code}, {place}")));
-    }
-    for end in ["interception 4", "interception 8", "interception 16", "interception 24", "interception 28"] {
-        owed.push(format!("{end}, inside"));
-    }
-    for end in ["interception 32", "interception 44", "host fault 4 hex", "host fault 11 hex", "host fault 12 hex"] {
-        owed.push(format!("{end}, inside"));
+    for name in ["comparator", "CPU timer", "interval timer"] {
+        owed.extend(["enables", "disables"].map(|does| format!("LCTL {does} the {name}")));
     }
     let others = [
         "16 plain units in a row",
@@ -483,15 +701,90 @@ fn owed() -> Vec<String> {
         "branch to an odd address",
         "overflow not enabled",
         "LCTL from 15 on to 0",
-        "LPSW changes the key",
-        "LPSW changes DAT",
-        "LPSW changes the mode",
-        "LPSW changes the form",
-        "LPSW changes problem state",
-        "LPSW enters the wait state",
-        "LPSW of a malformed PSW",
-        "LPSW of an odd address",
+        "STCTL from 15 on to 0",
+        "LCTL changes low-address protection",
+        "LCTL changes the format of DAT",
+        "LCTL of the values that are there",
     ];
     owed.extend(others.map(str::to_string));
+    owed
+}
+
+/// Instructions, interruptions and control registers by the form of the PSW.
+fn owed_by_form() -> Vec<String> {
+    let mut owed = Vec::new();
+    for form in FORMS {
+        owed.extend(PLAIN.map(|(_, name)| format!("{name}, {form}")));
+        owed.extend(OTHERS.map(|name| format!("{name}, {form}")));
+        owed.extend(["1", "2", "4", "5", "6", "8"].map(|code| format!("interruption, program {code} hex, {form}")));
+        owed.push(format!("interruption, SVC, {form}"));
+        owed.push(format!("CR0 changed, {form}"));
+        owed.push(format!("text over the end of addresses, {form}"));
+        owed.extend(["L", "ST"].map(|name| format!("operand of {name} over the end of addresses, {form}")));
+        if form.starts_with("DAT on") {
+            owed.push(format!("CR1 changed, {form}"));
+            owed.extend(["10", "11", "12"].map(|code| format!("interruption, program {code} hex, {form}")));
+        }
+    }
+    owed
+}
+
+/// What exceptions are of, what PSWs change, and what interruptions meet.
+fn owed_by_interruptions() -> Vec<String> {
+    let mut owed = Vec::new();
+    for code in ["4", "5", "10", "11", "12"] {
+        owed.push(format!("program {code} hex of a text"));
+        owed.extend(["L", "ST", "STCK"].map(|name| format!("program {code} hex of {name}")));
+        owed.extend(OTHERS.map(|name| format!("program {code} hex of {name}")));
+    }
+    for name in ["LPSW", "SPT", "STPT", "LCTL", "STCTL"] {
+        owed.extend(["2", "6"].map(|code| format!("program {code} hex of {name}")));
+    }
+    owed.extend(["1", "2"].map(|code| format!("program {code} hex of another operation")));
+    owed.extend(["a PSW", "an odd address"].map(|cause| format!("program 6 hex of {cause}")));
+    for what in ["LPSW", "interruption"] {
+        owed.extend(["the key", "DAT", "the mode", "the form"].map(|change| format!("{what} changes {change}")));
+        let changes = ["problem state", "the external mask", "none of bits 0-17"];
+        owed.extend(changes.map(|change| format!("{what} changes {change}")));
+        owed.push(format!("{what} enters the wait state"));
+        owed.extend(["a malformed PSW", "an odd address"].map(|psw| format!("{what} of {psw}")));
+    }
+    owed.extend(["a prefix", "another new PSW than before"].map(|what| format!("interruption with {what}")));
+    for what in ["texts", "the host's page entries", "the guest's entries"] {
+        owed.push(format!("interruption with areas among {what}"));
+    }
+    owed.extend(["moved by a store", "stored into"].map(|what| format!("interruption with areas {what}")));
+    for kind in
+        ["SVC", "LPSW", "STCK", "SPT", "STPT", "program 1 hex", "program 2 hex", "program 4 hex", "program 5 hex"]
+    {
+        owed.push(format!("the interval timer's word falls in a unit of {kind}"));
+    }
+    for when in ["before", "after"] {
+        owed.push(format!("the interval timer's word falls one unit {when} an interruption"));
+    }
+    owed
+}
+
+/// Exits, and the unit before them.
+fn owed_by_exits() -> Vec<String> {
+    let mut owed = Vec::new();
+    for code in ["20, 1004 hex", "20, 1005 hex", "20, 0080 hex"] {
+        let places = ["at the first unit", "inside", "at the last unit", "one after the last unit"];
+        owed.extend(places.map(|place| format!("interception {code}, {place}")));
+        owed.extend(["SVC", "LPSW", "LCTL", "STCK"].map(|kind| format!("interception {code}, after {kind}")));
+    }
+    owed.push("interception 20, 1005 hex, after SPT".to_string());
+    for kind in ["SVC", "LPSW", "STCK", "SPT", "STPT", "LCTL", "STCTL", "program 1 hex", "program 4 hex"] {
+        owed.push(format!("last unit of the budget, {kind}"));
+    }
+    for code in [4, 8, 16, 24, 28, 32, 44] {
+        owed.push(format!("interception {code}, inside"));
+    }
+    owed.extend(["SVC", "LPSW", "LCTL", "another operation"].map(|name| format!("interception 4 of {name}")));
+    for code in ["1", "2", "4", "5", "6", "8", "10", "11", "12"] {
+        owed.push(format!("interception 8, program {code} hex"));
+    }
+    owed.extend(["4", "11", "12"].map(|code| format!("host fault {code} hex, inside")));
+    owed.extend(["4", "11"].map(|code| format!("host fault {code} hex at an area")));
     owed
 }

@@ -1,22 +1,29 @@
 //! Guests for a run that does many units at a time on kept translations of blocks of 2,048 bytes, eight for fetches and
 //! eight for stores, the block of an address in entry address / 2,048 % 8: loops over the ends of blocks and pages, by
 //! blocks that share an entry and by pages that share a frame, and in the loops what changes a kept translation, the
-//! text, the PSW, control registers or the timers, or interrupts.
+//! text, the PSW, control registers or the timers, or interrupts. More than half are programs under a supervisor: loops
+//! of SVC, exceptions and privileged instructions, with handlers that mostly go back.
 
-use super::{Case, Machine, Rng, CR, GR};
+use super::{Case, Machine, Modes, Rng, CR, GR};
 use crate::model::{self, Answer, FRAME};
 
 pub fn case(rng: &mut Rng, machine: Machine) -> Case {
     let mut guest = Guest::new(rng, machine);
+    guest.choose_frames();
+    guest.choose_extent();
     guest.lay_host_tables();
     guest.lay_guest_tables();
     guest.choose_numbers();
     guest.choose_fragments();
+    guest.choose_states();
+    guest.choose_values();
     guest.choose_registers();
     guest.choose_controls();
+    guest.choose_requests();
     guest.lay_fragments();
     guest.lay_areas();
     guest.set_interval_timer();
+    guest.copy_areas();
     guest.set_keys();
     guest.case
 }
@@ -54,11 +61,37 @@ const OTHER_GUEST_SEGMENTS: u32 = 0x4000;
 const FAR_GUEST_PAGES: u32 = 0xA400;
 const FAR_HOST_PAGES: u32 = 0xAC00;
 
-// In logical page 0: PSWs, values of all control registers twice in a row, two of these, and values of the CPU timer.
-const PSWS: u32 = 0x300;
-const CONTROLS: u32 = 0x380;
-const OTHER_CONTROLS: u32 = 0x400;
-const TIMERS: u32 = 0x480;
+// Of a supervised guest with DAT on: pages whose entries fail an access, those between them being of operands, and
+// segments. The short one has entries for sixteen pages; two are like the first of all, one of them past the entries of
+// the shortest table.
+const PROTECTED: u32 = 0x20;
+const INVALID: u32 = 0x22;
+const MALFORMED: u32 = 0x24;
+const PAST_EXTENT: u32 = 0x26;
+const INVALID_SEGMENT: u32 = 1;
+const MALFORMED_SEGMENT: u32 = 2;
+const PAST_EXTENT_SEGMENT: u32 = 3;
+const SHORT_SEGMENT: u32 = 4;
+const LIKE_SEGMENT: u32 = 5;
+const LATE_SEGMENT: u32 = 16;
+
+// Where the values to load stand, from the first on: PSWs, values of the CPU timer, values of all control registers
+// twice in a row, and two of these.
+const PSWS: u32 = 0;
+const TIMERS: u32 = 0x40;
+const CONTROLS: u32 = 0x80;
+const OTHER_CONTROLS: u32 = 0x100;
+/// The two last of the PSWs are saved and loaded in turn where a handler changes tasks.
+const TASKS: u32 = PSWS + 48;
+
+/// In logical page 0: behind the areas of interruptions, or among low addresses.
+const VALUES: [u32; 2] = [0x300, 0x98];
+
+/// The page whose entry is the interval timer's word where page entries are areas.
+const TIMER_PAGE: u32 = 20;
+
+/// The page by which a supervised guest may have the frame of the areas.
+const ALIAS: u32 = 15;
 
 // What registers are for.
 const WORK: usize = 0;
@@ -66,7 +99,7 @@ const OPERAND: usize = 4;
 const OTHER_OPERAND: usize = 5;
 const START: usize = 6;
 const OTHER_START: usize = 7;
-/// The first fragment's page by another page of its frame.
+/// The first fragment's page by another page of its frame; of a supervised guest the values or the alias.
 const TWIN: usize = 8;
 /// Two words of text, and where a table's entry stands with two values for it.
 const WORD: usize = 9;
@@ -88,6 +121,20 @@ enum Theme {
     Controls,
     Branches,
     Exceptions,
+    /// SVC.
+    Calls,
+    /// Unassigned operations, privileged ones, operands off their boundaries, odd addresses.
+    Operations,
+    /// Operands that cannot be accessed, texts, and operands that move until they cannot.
+    Operands,
+    Targets,
+    Walks,
+    /// Stores into what the next interruption uses.
+    Areas,
+    /// A page that the program takes away and the handler gives back.
+    Paging,
+    /// A prefix page that gets another frame.
+    Prefix,
 }
 
 const THEMES: [Theme; 12] = [
@@ -105,6 +152,113 @@ const THEMES: [Theme; 12] = [
     Theme::Exceptions,
 ];
 
+/// Of programs under a supervisor: stores into areas and tables, accesses that fail, and the rest.
+const STORES: [Theme; 8] = [
+    Theme::Areas,
+    Theme::Areas,
+    Theme::Areas,
+    Theme::Paging,
+    Theme::Paging,
+    Theme::Prefix,
+    Theme::Prefix,
+    Theme::Tables,
+];
+const ACCESSES: [Theme; 5] = [Theme::Operands, Theme::Operands, Theme::Operands, Theme::Targets, Theme::Walks];
+const OTHER_THEMES: [Theme; 11] = [
+    Theme::Calls,
+    Theme::Operations,
+    Theme::Operations,
+    Theme::Clocks,
+    Theme::Clocks,
+    Theme::Clocks,
+    Theme::Controls,
+    Theme::Controls,
+    Theme::Controls,
+    Theme::Psws,
+    Theme::Low,
+];
+
+/// Why an operand or a text cannot be accessed.
+#[derive(Clone, Copy, PartialEq, Eq)]
+enum Fault {
+    Low,
+    Key,
+    Protected,
+    Past,
+    Segment,
+    Page,
+    Format,
+    Host,
+}
+
+/// With DAT off, and on.
+const FAULTS: [Fault; 10] = [
+    Fault::Low,
+    Fault::Low,
+    Fault::Key,
+    Fault::Key,
+    Fault::Key,
+    Fault::Past,
+    Fault::Past,
+    Fault::Past,
+    Fault::Past,
+    Fault::Host,
+];
+const FAULTS_OF_TABLES: [Fault; 14] = [
+    Fault::Low,
+    Fault::Key,
+    Fault::Protected,
+    Fault::Protected,
+    Fault::Past,
+    Fault::Segment,
+    Fault::Segment,
+    Fault::Segment,
+    Fault::Page,
+    Fault::Page,
+    Fault::Page,
+    Fault::Format,
+    Fault::Format,
+    Fault::Host,
+];
+
+/// What a PSW has beside address, condition code and program mask.
+#[derive(Clone, Copy)]
+struct State {
+    modes: Modes,
+    /// Of System/370: a BC PSW.
+    basic: bool,
+    problem: bool,
+    /// Of input and output and of external interruptions, and of machine checks.
+    masks: [u8; 2],
+}
+
+fn themes_of_loops(rng: &mut Rng) -> Vec<Theme> {
+    let mut themes = Vec::new();
+    while rng.percent(70) && themes.len() < 3 {
+        themes.push(rng.pick(&THEMES));
+    }
+    themes
+}
+
+/// Of stores and of accesses that fail at most one theme: each has its registers.
+fn themes_of_programs(rng: &mut Rng, dat: bool) -> Vec<Theme> {
+    let mut themes = Vec::new();
+    if rng.percent(55) {
+        themes.push(Theme::Calls);
+    }
+    if rng.percent(40) {
+        let theme = rng.pick(&STORES);
+        themes.extend([if theme == Theme::Paging && !dat { Theme::Areas } else { theme }; 2]);
+    }
+    if rng.percent(40) {
+        themes.extend([rng.pick(&ACCESSES); 2]);
+    }
+    while themes.is_empty() || themes.len() < 6 && rng.percent(55) {
+        themes.push(rng.pick(&OTHER_THEMES));
+    }
+    themes
+}
+
 struct Fragment {
     /// Logical.
     address: u32,
@@ -116,13 +270,17 @@ struct Guest<'a> {
     rng: &'a mut Rng,
     machine: Machine,
     case: Case,
-    dat: bool,
-    wide: bool,
+    modes: Modes,
+    /// Programs under a supervisor.
+    supervised: bool,
+    /// Where the themes need one.
+    fault: Option<Fault>,
     /// A fragment or an operand stands at the end of the addresses.
     wraps: bool,
     /// A second segment has its page table where operands are.
     far: bool,
-    key: u8,
+    /// The first segment has its page table in real page 0, among the areas.
+    low_tables: bool,
     origin: u32,
     extent: u32,
     prefix: u32,
@@ -130,6 +288,13 @@ struct Guest<'a> {
     themes: Vec<Theme>,
     /// The loop, another one, and the handlers of SVC and of program interruptions.
     fragments: Vec<Fragment>,
+    /// Of the fragments' PSWs, where the guest is supervised.
+    states: Vec<State>,
+    /// The logical address of the values to load, and whether TWIN has it.
+    values: u32,
+    values_by_register: bool,
+    /// How far a walk goes in a round.
+    step: u32,
     /// The registers by what they are for.
     registers: [u8; 16],
     /// The budget, which the timers are aimed at.
@@ -140,66 +305,79 @@ impl<'a> Guest<'a> {
     fn new(rng: &'a mut Rng, machine: Machine) -> Guest<'a> {
         let xa = machine != Machine::System370;
         let (dat, wide) = (xa && rng.percent(50), xa && rng.percent(55));
-        let mut record = vec![0; if machine == Machine::Xa { 200 } else { 208 }];
-        record[1] = record.len() as u8;
-        record[2] = if machine == Machine::Xa { 1 } else { 2 };
-        record[4] = if xa { 0x08 } else { 0x04 | rng.percent(10) as u8 };
-        // Of a large storage frames are 64 apart, which is what a guard of 64 frames may take for one.
-        let mut frames = [0, 1, 2, 3, 4, 5, 6, 7];
-        let count = if rng.per_mille(12) { 72 } else { 8 };
-        if count > 8 {
-            for frame in &mut frames[2..] {
-                *frame += if rng.percent(40) { 64 } else { 0 };
-            }
-            // The frames of operands are like those of tables or text.
-            frames[OTHER_DATA] = rng.pick(&[65, 66, 67, 71, frames[TEXT] ^ 64, frames[TABLES] ^ 64]);
-        }
-        let wraps = rng.percent(18);
-        let extent = match (wraps && !dat, wide) {
-            (true, true) => 32_768,
-            (true, false) => 256,
-            _ => rng.pick(&[1, 1, 1, 2, 4, 17]),
-        };
-        let origin = if extent == 32_768 { 0 } else { rng.pick(&[0, 0, 1, 15, 16, 0x777]) };
-        let mut themes = Vec::new();
-        while rng.percent(70) && themes.len() < 3 {
-            themes.push(rng.pick(&THEMES));
-        }
-        let far = themes.contains(&Theme::Tables) && !wraps && rng.percent(35);
-        let (origin, extent) = if far && !dat { (15, 2) } else { (origin, extent) };
-        // The areas of interruptions are entries of the host's page table.
-        let (origin, extent) = if !far && rng.percent(4) {
-            frames[AREAS] = frames[PAGES];
-            (0, extent.max(2))
-        } else {
-            (origin, extent)
-        };
-        record[12..14].copy_from_slice(&(origin as u16).to_be_bytes());
-        record[14..16].copy_from_slice(&(extent as u16).to_be_bytes());
-        let prefix = if rng.percent(65) { 0 } else { rng.pick(&[0x3000, 0x7000, 0xA000, 0xF000]) };
-        model::set_word(&mut record, 8, prefix);
-        let case = Case {
-            record,
-            storage: vec![0; count * FRAME],
-            keys: vec![0; count],
-            designation: 127,
-            clock: 0,
-            time: 1,
-            budget: 1,
-            addresses: Vec::new(),
-        };
+        let supervised = rng.percent(60);
+        let themes = if supervised { themes_of_programs(rng, dat) } else { themes_of_loops(rng) };
+        let fault = ACCESSES.iter().any(|theme| themes.contains(theme)).then(|| match dat {
+            true => rng.pick(&FAULTS_OF_TABLES),
+            false => rng.pick(&FAULTS),
+        });
+        let key = if rng.percent(50) && fault != Some(Fault::Key) { 0 } else { rng.range(1, 15) as u8 };
+        let modes = Modes { dat, wide, key };
+        let wraps = rng.percent(if supervised { 8 } else { 18 }) && fault != Some(Fault::Past);
+        let far = !supervised && themes.contains(&Theme::Tables) && !wraps && rng.percent(35);
+        let low_tables = supervised && dat && !themes.contains(&Theme::Paging) && rng.percent(8);
+        let mut record = machine.record();
+        record[4] |= (!xa && rng.percent(10)) as u8;
+        let (storage, keys, addresses) = (Vec::new(), Vec::new(), Vec::new());
+        let case = Case { record, storage, keys, designation: 127, clock: 0, time: 1, budget: 1, addresses };
         let mut registers: [u8; 16] = std::array::from_fn(|role| role as u8);
         for role in 1..16 {
             registers.swap(role, rng.range(1, role as u32) as usize);
         }
-        let key = if rng.percent(50) { 0 } else { rng.range(1, 15) as u8 };
-        let fragments = Vec::new();
-        let units = 1;
+        let frames = [0, 1, 2, 3, 4, 5, 6, 7];
+        let (fragments, states) = (Vec::new(), Vec::new());
+        let (origin, extent, prefix, units, step) = (0, 1, 0, 1, 8);
+        let (values, values_by_register) = (VALUES[0], false);
         #[rustfmt::skip]
         let guest = Guest {
-            rng, machine, case, dat, wide, wraps, far, key, origin, extent, prefix, frames, themes, fragments, registers, units,
+            rng, machine, case, modes, supervised, fault, wraps, far, low_tables, origin, extent, prefix, frames, themes,
+            fragments, states, values, values_by_register, step, registers, units,
         };
         guest
+    }
+
+    /// Of a large storage frames are 64 apart, which is what a guard of 64 frames may take for one.
+    fn choose_frames(&mut self) {
+        let count = if self.rng.per_mille(12) { 72 } else { 8 };
+        if count > 8 {
+            for frame in &mut self.frames[2..] {
+                *frame += if self.rng.percent(40) { 64 } else { 0 };
+            }
+            // The frames of operands are like those of tables or text.
+            let [text, tables] = [self.frames[TEXT], self.frames[TABLES]];
+            self.frames[OTHER_DATA] = self.rng.pick(&[65, 66, 67, 71, text ^ 64, tables ^ 64]);
+        }
+        self.case.storage = vec![0; count * FRAME];
+        self.case.keys = vec![0; count];
+        if self.supervised && self.rng.percent(6) {
+            // The areas of interruptions are among texts or operands.
+            self.frames[AREAS] = self.frames[self.rng.pick(&[TEXT, OTHER_TEXT, DATA, OTHER_DATA])];
+        }
+    }
+
+    fn choose_extent(&mut self) {
+        self.extent = match (self.wraps && !self.modes.dat, self.modes.wide) {
+            (true, true) => 32_768,
+            (true, false) => 256,
+            _ => self.rng.pick(&[1, 1, 1, 2, 4, 17]),
+        };
+        self.origin = if self.extent == 32_768 { 0 } else { self.rng.pick(&[0, 0, 1, 15, 16, 0x777]) };
+        if self.far && !self.modes.dat {
+            (self.origin, self.extent) = (15, 2);
+        }
+        self.prefix = if self.rng.percent(60) { 0 } else { self.rng.pick(&[0x3000, 0x7000, 0xA000, 0xF000]) };
+        if !self.far && !self.low_tables && self.rng.percent(4) {
+            // The areas of interruptions are entries of the host's page table, perhaps that of the prefix page.
+            self.frames[AREAS] = self.frames[PAGES];
+            (self.origin, self.extent) = (0, self.extent.max(2));
+            if self.rng.percent(50) {
+                self.prefix = self.rng.pick(&[0x8000, 0x9000, 0xA000, 0xB000, TIMER_PAGE << 12]);
+            }
+        }
+        let record = &mut self.case.record;
+        record[12..14].copy_from_slice(&(self.origin as u16).to_be_bytes());
+        record[14..16].copy_from_slice(&(self.extent as u16).to_be_bytes());
+        model::set_word(record, 8, self.prefix);
     }
 
     fn system_370(&self) -> bool {
@@ -211,7 +389,7 @@ impl<'a> Guest<'a> {
     }
 
     fn cut(&self, address: u32) -> u32 {
-        address & if self.wide { 0x7FFF_FFFF } else { 0x00FF_FFFF }
+        address & if self.modes.wide { 0x7FFF_FFFF } else { 0x00FF_FFFF }
     }
 
     fn put(&mut self, at: u32, value: u32) {
@@ -247,15 +425,19 @@ impl<'a> Guest<'a> {
         for page in 0..pages {
             let mut role = ROLES[page as usize % 16];
             // The second half of the guest's segment table.
-            if page == 9 && self.dat && self.wide {
+            if page == 9 && self.modes.dat && self.modes.wide {
                 role = TABLES;
             }
-            if page % 16 == 15 && self.rng.percent(40) {
+            if page % 16 == ALIAS && self.rng.percent(40) {
                 role = DATA;
+            } else if page % 16 == ALIAS && self.supervised && self.rng.percent(60) {
+                role = AREAS;
             }
             let flags = match page % 16 {
                 HOST_PROTECTED => 0x200,
                 HOST_INVALID => 0x400,
+                // No interruption can be presented.
+                _ if page == 0 && self.supervised && self.rng.percent(3) => self.rng.pick(&[0x200, 0x200, 0x400]),
                 _ => 0,
             };
             let entry = self.frames[role] << 12 | flags;
@@ -269,7 +451,7 @@ impl<'a> Guest<'a> {
             };
             self.put(at + OTHER_HOST_PAGES - HOST_PAGES, other);
         }
-        if self.far && !self.dat {
+        if self.far && !self.modes.dat {
             let table = (self.frames[DATA] << 12) + (FAR_HOST_PAGES & 0xFFF);
             self.put(4, table | 15);
             for page in 16..32 {
@@ -281,7 +463,7 @@ impl<'a> Guest<'a> {
 
     /// Identity mostly. In the other page table operands, and sometimes texts, are exchanged.
     fn lay_guest_tables(&mut self) {
-        if !self.dat {
+        if !self.modes.dat {
             return;
         }
         let tables = self.frames[TABLES] << 12;
@@ -314,6 +496,9 @@ impl<'a> Guest<'a> {
             self.put(tables + (GUEST_PAGES & 0xFFF) + 4 * index, page << 12 | flags);
             self.put(tables + (OTHER_GUEST_PAGES & 0xFFF) + 4 * index, other << 12);
         }
+        if self.supervised {
+            self.lay_failing_entries(tables);
+        }
         if self.far {
             self.put(tables + 4, FAR_GUEST_PAGES | 15);
             for page in 0..16 {
@@ -321,12 +506,51 @@ impl<'a> Guest<'a> {
                 self.put((self.frames[DATA] << 12) + (FAR_GUEST_PAGES & 0xFFF) + 4 * page, real << 12);
             }
         }
-        model::set_word(&mut self.case.record, CR + 4, GUEST_SEGMENTS | 127);
+        let length = if self.fault == Some(Fault::Segment) && !self.wraps { 0 } else { 127 };
+        model::set_word(&mut self.case.record, CR + 4, GUEST_SEGMENTS | length);
+    }
+
+    /// Pages and segments by which accesses fail. With low tables the first words of real page 0 are the entries of
+    /// the first pages: those of pages 8 to 11 are where old PSWs are stored.
+    fn lay_failing_entries(&mut self, tables: u32) {
+        let past = 16 * self.extent << 12 & 0x7FFF_F000;
+        let malformed = self.rng.pick(&[0x100, 0x800, 0x8000_0000]);
+        let entries = [
+            (PROTECTED, 0x3200),
+            (INVALID, 0x3400),
+            (MALFORMED, 0x3000 | malformed),
+            (PAST_EXTENT, past),
+            (PAST_EXTENT + 2, HOST_PROTECTED << 12),
+            (PAST_EXTENT + 4, HOST_INVALID << 12),
+        ];
+        for (page, entry) in entries {
+            self.put(tables + (GUEST_PAGES & 0xFFF) + 4 * page, entry);
+            let before = self.rng.pick(&[3, 4, 7, 10]);
+            self.put(tables + (GUEST_PAGES & 0xFFF) + 4 * (page - 1), before << 12);
+        }
+        let segments = [
+            (INVALID_SEGMENT, GUEST_PAGES | 0x20 | 15),
+            (MALFORMED_SEGMENT, 0x8000_0000 | GUEST_PAGES | 15),
+            (PAST_EXTENT_SEGMENT, past | 15),
+            (SHORT_SEGMENT, GUEST_PAGES),
+            (LIKE_SEGMENT, GUEST_PAGES | 15),
+            (LATE_SEGMENT, GUEST_PAGES | 15),
+        ];
+        for (segment, entry) in segments {
+            self.put(tables + 4 * segment, entry);
+        }
+        if self.low_tables {
+            let length = self.rng.pick(&[0, 15]);
+            self.put(tables, length);
+            for page in (0..8).chain(12..16) {
+                self.put((self.frames[AREAS] << 12) + 4 * page, page << 12);
+            }
+        }
     }
 
     /// Writes bytes at a logical address by the first PSW's modes, as far as the tables lead.
     fn poke(&mut self, address: u32, bytes: &[u8]) {
-        self.poke_for(self.dat, address, bytes);
+        self.poke_for(self.modes.dat, address, bytes);
     }
 
     fn poke_for(&mut self, dat: bool, address: u32, bytes: &[u8]) {
@@ -351,13 +575,7 @@ impl<'a> Guest<'a> {
     // Numbers and registers.
 
     fn choose_numbers(&mut self) {
-        let time = match self.rng.below(100) {
-            0..=29 => 1,
-            30..=44 => self.rng.range(2, 100),
-            45..=54 => 4096,
-            55..=69 => 1_048_576,
-            _ => self.rng.range(1, 1_048_576),
-        };
+        let time = self.machine.time(self.rng);
         let budget = match self.rng.below(10_000) {
             0..=99 => 0,
             100..=399 => 1,
@@ -427,6 +645,47 @@ impl<'a> Guest<'a> {
         }
     }
 
+    /// Of the two programs and the two handlers. These are privileged; in the rest they are like the programs, or not.
+    fn choose_states(&mut self) {
+        let mut program = self.state();
+        let alike = self.rng.percent(25);
+        // Privileged instructions are done in supervisor state.
+        let privileged = [Theme::Clocks, Theme::Controls, Theme::Areas].iter().any(|&theme| self.has(theme));
+        let privileged = privileged || self.fault.is_some();
+        program.problem = !alike && self.rng.percent(if privileged { 40 } else { 75 });
+        for number in 0..4 {
+            let mut state = program;
+            if number > 0 && !alike && (number > 1 || self.rng.percent(40)) {
+                let key = program.modes.key;
+                state.modes.key = self.rng.pick(&[key, key, key, 0, 0, if number < 3 { 15 } else { 0 }]);
+                state.masks[0] ^= self.rng.pick(&[0, 0, 0x01, 0x02]);
+                state.basic ^= self.system_370() && self.rng.percent(50);
+                let narrower = !self.system_370() && !self.wraps && self.rng.percent(20);
+                state.modes.wide ^= narrower;
+            }
+            if number > 1 {
+                state.problem = self.rng.percent(3);
+                state.modes.dat &= alike || self.rng.percent(55);
+            }
+            self.states.push(state);
+        }
+    }
+
+    /// Where the values to load stand: in page 0, or about the end of a block of operands.
+    fn choose_values(&mut self) {
+        self.values = VALUES[self.rng.percent(25) as usize];
+        self.values_by_register = self.supervised && !self.has(Theme::Prefix) && self.rng.percent(25);
+        if self.values_by_register {
+            let page = self.rng.pick(&[3, 4, 7, 10]) << 12;
+            let before = match () {
+                _ if self.has(Theme::Controls) => self.rng.range(17, 46),
+                _ if self.has(Theme::Clocks) => self.rng.range(9, 16),
+                _ => self.rng.range(1, 8),
+            };
+            self.values = page + self.rng.pick(&[0x800, 0x1000]) - 8 * before;
+        }
+    }
+
     fn choose_registers(&mut self) {
         for role in 0..16 {
             let value = match self.rng.below(8) {
@@ -446,7 +705,8 @@ impl<'a> Guest<'a> {
             _ => self.operand(),
         };
         let other = if self.has(Theme::Exceptions) { self.failing_operand() } else { other };
-        let other = match (self.far, self.dat) {
+        let (operand, other) = self.operands_of_programs(operand, other);
+        let other = match (self.far, self.modes.dat) {
             (true, true) => 0x0010_0000 | other & 0xFFFF,
             (true, false) => 0x0001_0000 | other & 0xFFFF,
             _ => other,
@@ -455,7 +715,7 @@ impl<'a> Guest<'a> {
         let second = self.fragments[1].address;
         let twin = first & 0xFFF
             | match first >> 12 & 15 {
-                1 if self.dat && self.wide => 0x6000,
+                1 if self.modes.dat && self.modes.wide => 0x6000,
                 1 => self.rng.pick(&[6, 9]) << 12,
                 2 => 0x5000,
                 5 => 0x2000,
@@ -468,7 +728,7 @@ impl<'a> Guest<'a> {
             let high = if self.rng.percent(60) {
                 0
             } else {
-                self.rng.word() & if self.wide { 0x8000_0000 } else { 0xFF00_0000 }
+                self.rng.word() & if self.modes.wide { 0x8000_0000 } else { 0xFF00_0000 }
             };
             self.set(role, address & 0x7FFF_FFFF | high);
         }
@@ -481,10 +741,92 @@ impl<'a> Guest<'a> {
         self.set(INDEX, index);
         let count = self.rng.range(1, 9);
         self.set(COUNT, count);
+        if self.supervised {
+            self.choose_registers_of_programs(operand);
+        }
+    }
+
+    /// The other operand is where accesses fail; a walk begins some rounds before.
+    fn operands_of_programs(&mut self, operand: u32, other: u32) -> (u32, u32) {
+        if self.fault.is_none() {
+            let late = self.supervised && self.has(Theme::Controls) && self.modes.dat && self.modes.wide;
+            let segment = match () {
+                _ if self.has(Theme::Paging) && self.rng.percent(30) => LIKE_SEGMENT,
+                _ if late && self.rng.percent(30) => LATE_SEGMENT,
+                _ => 0,
+            };
+            return (segment << 20 | operand, other);
+        }
+        let failing = self.failing_address();
+        if !self.has(Theme::Walks) {
+            return (operand, failing);
+        }
+        self.step = self.rng.pick(&[4, 8, 8, 16, 64, 0x100, 0x3F8]);
+        let before = self.step * self.rng.range(1, 6);
+        (self.cut((failing & !7).wrapping_sub(before)), failing)
+    }
+
+    /// What the themes of supervised guests have in registers.
+    fn choose_registers_of_programs(&mut self, operand: u32) {
+        let twin = if self.values_by_register { self.values } else { ALIAS << 12 };
+        self.set(TWIN, twin);
+        let tasks = self.values + TASKS;
+        self.set(WORD, tasks);
+        self.set(OTHER_WORD, tasks + 8);
+        if self.has(Theme::Walks) {
+            self.set(INDEX, operand);
+        }
+        if self.has(Theme::Targets) {
+            // A text that fails as a whole, or after its first halfword.
+            let before = 2 * self.rng.below(2);
+            let target = self.failing_address().wrapping_sub(before) & !1;
+            let operation = self.rng.pick(&[0x58, 0x50, 0x82, 0xD2, 0x0A, 0x1A]);
+            self.set(WORD, self.cut(target));
+            self.poke(target, &[operation, 0]);
+        }
+        if self.has(Theme::Areas) {
+            // Where the next SVC goes on, in turn.
+            for (role, fragment) in [(VALUE, 2), (OTHER_VALUE, self.rng.pick(&[1, 3, 2, 0]))] {
+                let psw = self.psw(fragment);
+                self.set(role, model::word(&psw, 4));
+            }
+        }
+    }
+
+    /// An address where an access fails, or that is some bytes before one.
+    fn failing_address(&mut self) -> u32 {
+        let dat = self.modes.dat;
+        let page = |number: u32| number << 12;
+        let segment = |number: u32| number << 20;
+        let late = segment(if self.modes.wide { LATE_SEGMENT } else { INVALID_SEGMENT });
+        let pages: [u32; 2] = match self.fault {
+            Some(Fault::Low) => return self.rng.range(0, 63) * 8 + self.rng.pick(&[0, 0, 4, 6]),
+            Some(Fault::Protected) => [page(PROTECTED); 2],
+            Some(Fault::Past) if dat => [page(PAST_EXTENT), segment(PAST_EXTENT_SEGMENT)],
+            Some(Fault::Past) => [16 * self.extent << 12; 2],
+            Some(Fault::Segment) => [segment(INVALID_SEGMENT), late],
+            Some(Fault::Page) => [page(INVALID), segment(SHORT_SEGMENT) | 0x10000],
+            Some(Fault::Format) => [page(MALFORMED), segment(MALFORMED_SEGMENT)],
+            Some(Fault::Host) if dat => [page(PAST_EXTENT + 2), page(PAST_EXTENT + 4)],
+            Some(Fault::Host) => [page(HOST_PROTECTED), page(HOST_INVALID)],
+            _ => [page(4); 2],
+        };
+        let start = self.rng.pick(&pages);
+        let address = match self.rng.below(10) {
+            0..=3 => start,
+            4..=6 => start + self.rng.pick(&[8, 0x7F8, 0x800, 0xFF8]),
+            _ => start.wrapping_sub(self.rng.pick(&[2, 4, 4, 8, 12])),
+        };
+        self.cut(address)
     }
 
     fn set(&mut self, role: usize, value: u32) {
         model::set_word(&mut self.case.record, GR + 4 * self.registers[role] as usize, value);
+    }
+
+    /// What the register has at first.
+    fn value(&self, role: usize) -> u32 {
+        model::word(&self.case.record, GR + 4 * self.registers[role] as usize)
     }
 
     /// A place for operands, mostly about the end of a block.
@@ -494,10 +836,10 @@ impl<'a> Guest<'a> {
             return self.cut(0u32.wrapping_sub(before));
         }
         let mut page =
-            self.rng.pick(&[3, 3, 4, 4, 7, 7, 10, 9, 15, if self.dat || self.extent > 1 { 0x13 } else { 3 }]);
+            self.rng.pick(&[3, 3, 4, 4, 7, 7, 10, 9, 15, if self.modes.dat || self.extent > 1 { 0x13 } else { 3 }]);
         if self.frames[AREAS] == self.frames[PAGES] && self.rng.percent(70) {
             // Whose entries are where an old PSW is stored, or the interval timer's word.
-            page = self.rng.pick(&[8, 9, 10, 11, 20, 20]);
+            page = self.rng.pick(&[8, 9, 10, 11, TIMER_PAGE, TIMER_PAGE]);
         }
         let offset = match self.rng.below(10) {
             0..=3 => self.rng.range(0x7F4, 0x802),
@@ -534,7 +876,7 @@ impl<'a> Guest<'a> {
     /// An entry of a table that operands or text are translated by, guest's or host's, and what to store there.
     fn choose_entry(&mut self) {
         let mut page = self.rng.pick(&[3, 3, 4, 7, 7, 10]);
-        let operand = model::word(&self.case.record, GR + 4 * self.registers[OPERAND] as usize) & 0x00FF_FFFF;
+        let operand = self.value(OPERAND) & 0x00FF_FFFF;
         if self.rng.percent(80) {
             page = operand >> 12 & 0xFF;
         }
@@ -546,10 +888,14 @@ impl<'a> Guest<'a> {
             self.choose_far_entry(flags);
             return;
         }
-        let (at, values) = match self.rng.below(if self.dat { 20 } else { 10 }) {
+        if self.has(Theme::Prefix) || self.has(Theme::Paging) {
+            self.choose_entry_of_programs(operand);
+            return;
+        }
+        let (at, values) = match self.rng.below(if self.modes.dat { 20 } else { 10 }) {
             0..=6 => {
                 // By a page that has the host's page table. With DAT on the page is that of the guest's entry.
-                if self.dat {
+                if self.modes.dat {
                     let at = (self.frames[TABLES] << 12) + (GUEST_PAGES & 0xFFF) + 4 * page;
                     page = model::word(&self.case.storage, at as usize) >> 12 & 0xFF;
                 }
@@ -575,12 +921,34 @@ impl<'a> Guest<'a> {
         self.set(OTHER_VALUE, values[0]);
     }
 
+    /// The host's entry of the prefix page, which leads to a copy of it; or the guest's of an operand, which is taken
+    /// away.
+    fn choose_entry_of_programs(&mut self, operand: u32) {
+        let (at, now, other) = if self.has(Theme::Prefix) {
+            let at = self.host_entry(0);
+            let flags = if self.rng.percent(75) { 0 } else { self.rng.pick(&[0x200, 0x400]) };
+            let now = model::word(&self.case.storage, at as usize);
+            (0xD000 | at & 0xFFF, now, self.frames[DATA] << 12 | flags)
+        } else if operand >> 20 == LIKE_SEGMENT {
+            let now = GUEST_PAGES | 15;
+            (GUEST_SEGMENTS + 4 * LIKE_SEGMENT, now, now | self.rng.pick(&[0x20, 0x20, 0x8000_0000]))
+        } else {
+            let at = GUEST_PAGES + 4 * (operand >> 12 & 0xFF);
+            let place = (self.frames[TABLES] << 12) + (at & 0xFFF);
+            let now = model::word(&self.case.storage, place as usize) & 0x7FFF_F000;
+            (at, now, now | self.rng.pick(&[0x400, 0x400, 0x400, 0x200, 0x100]))
+        };
+        self.set(ENTRY, at);
+        self.set(VALUE, other);
+        self.set(OTHER_VALUE, now);
+    }
+
     /// The same in the second segment's page table, which is not in use until the other operand is.
     fn choose_far_entry(&mut self, flags: u32) {
-        let other = model::word(&self.case.record, GR + 4 * self.registers[OTHER_OPERAND] as usize);
+        let other = self.value(OTHER_OPERAND);
         let index = 4 * (other >> 12 & 15);
-        let (at, roles) = if self.dat { (FAR_GUEST_PAGES, [3, 4]) } else { (FAR_HOST_PAGES, [DATA, OTHER_DATA]) };
-        let values = if self.dat { roles.map(|page| page as u32) } else { roles.map(|role| self.frames[role]) };
+        let (at, roles) = if self.modes.dat { (FAR_GUEST_PAGES, [3, 4]) } else { (FAR_HOST_PAGES, [DATA, OTHER_DATA]) };
+        let values = if self.modes.dat { roles.map(|page| page as u32) } else { roles.map(|role| self.frames[role]) };
         self.set(ENTRY, at + index);
         self.set(VALUE, values[0] << 12 | flags);
         self.set(OTHER_VALUE, values[1] << 12);
@@ -597,6 +965,23 @@ impl<'a> Guest<'a> {
             let value = self.rng.word();
             model::set_word(&mut self.case.record, CR + 4 * register, value);
         }
+        if self.has(Theme::Areas) {
+            // Pairs that are new PSWs, for STCTL.
+            for (register, fragment) in [(4, 2), (6, 3), (8, self.rng.below(4) as usize)] {
+                let psw = if self.rng.percent(85) { self.psw(fragment) } else { self.strange_psw(fragment) };
+                self.case.record[CR + 4 * register..][..8].copy_from_slice(&psw);
+            }
+        }
+        for (register, role) in [(10, VALUE), (11, OTHER_VALUE)] {
+            let value = self.value(role);
+            model::set_word(&mut self.case.record, CR + 4 * register, value);
+        }
+        let psw = self.psw(0);
+        self.case.record[16..24].copy_from_slice(&psw);
+    }
+
+    /// Interception controls, requests, and whatever the last run left.
+    fn choose_requests(&mut self) {
         let record = &mut self.case.record;
         for (bit, chance) in [(0x80, 10), (0x40, 10), (0x20, 6)] {
             record[5] |= if self.rng.percent(chance) { bit } else { 0 };
@@ -617,14 +1002,25 @@ impl<'a> Guest<'a> {
         if self.rng.percent(50) {
             self.rng.fill(&mut record[52..66]);
         }
-        let psw = self.psw(0);
-        self.case.record[16..24].copy_from_slice(&psw);
     }
 
     fn control_register_0(&mut self) -> u32 {
-        let masks = [(0x1000_0000, 30), (0x800, 50), (0x400, 50), (0x80, 40)];
+        let low = match self.fault {
+            Some(Fault::Low) => 85,
+            _ if self.supervised => 12,
+            _ => 30,
+        };
+        let masks = [(0x1000_0000, low), (0x800, 50), (0x400, 50), (0x80, 40)];
         let masks = masks.map(|(bit, chance)| if self.rng.percent(chance) { bit } else { 0 });
         0b10110 << 19 | masks.into_iter().sum::<u32>()
+    }
+
+    /// A state for any PSW of the guest.
+    fn state(&mut self) -> State {
+        let basic = self.system_370() && self.rng.percent(50);
+        let external = if self.rng.percent(30) { 0x01 } else { 0 };
+        let masks = [external | if self.rng.percent(25) { 0x02 } else { 0 }, self.rng.byte() & 0x04];
+        State { modes: self.modes, basic, problem: self.rng.percent(8), masks }
     }
 
     /// One that goes on at an instruction of the fragment.
@@ -632,13 +1028,11 @@ impl<'a> Guest<'a> {
         let starts = &self.fragments[fragment].starts;
         let start = if fragment < 2 && self.rng.percent(25) { self.rng.pick(starts) } else { 0 };
         let address = self.cut(self.fragments[fragment].address + start);
-        let basic = self.system_370() && self.rng.percent(50);
+        let state = if self.supervised && self.rng.percent(95) { self.states[fragment] } else { self.state() };
+        let State { modes, basic, problem, masks } = state;
         let mut psw = [0; 8];
-        psw[0] = if self.dat { 0x04 } else { 0 };
-        psw[0] |= if self.rng.percent(30) { 0x01 } else { 0 };
-        psw[0] |= if self.rng.percent(25) { 0x02 } else { 0 };
-        psw[1] = self.key << 4 | if basic { 0 } else { 0x08 } | self.rng.byte() & 0x04;
-        psw[1] |= if self.rng.percent(8) { 0x01 } else { 0 };
+        psw[0] = masks[0] | if modes.dat { 0x04 } else { 0 };
+        psw[1] = modes.key << 4 | if basic { 0 } else { 0x08 } | masks[1] | problem as u8;
         // Condition code and program mask.
         psw[if basic { 4 } else { 2 }] = self.rng.byte() & if self.rng.percent(60) { 0x37 } else { 0x3F };
         if basic {
@@ -648,7 +1042,7 @@ impl<'a> Guest<'a> {
         }
         psw[5..8].copy_from_slice(&address.to_be_bytes()[1..]);
         if !self.system_370() {
-            psw[4] = address.to_be_bytes()[0] | if self.wide { 0x80 } else { 0 };
+            psw[4] = if modes.wide { 0x80 | address.to_be_bytes()[0] } else { 0 };
         }
         psw
     }
@@ -657,7 +1051,7 @@ impl<'a> Guest<'a> {
     fn strange_psw(&mut self, fragment: usize) -> [u8; 8] {
         let mut psw = self.psw(fragment);
         match self.rng.below(20) {
-            0..=4 => psw[1] = psw[1] & 0x0F | self.rng.pick(&[0, self.key, 1, 15]) << 4,
+            0..=4 => psw[1] = psw[1] & 0x0F | self.rng.pick(&[0, self.modes.key, 1, 15]) << 4,
             5..=9 if !self.system_370() => psw[0] ^= 0x04,
             10..=11 if !self.system_370() && psw[4] & 0x7F == 0 => psw[4] ^= 0x80,
             5..=11 => psw[1] ^= 0x08,
@@ -686,6 +1080,7 @@ impl<'a> Guest<'a> {
         model::set_word(&mut self.case.record, 204, residue.min(40_959_999));
         if self.system_370() {
             let word = match self.rng.below(10) {
+                _ if self.prefix == TIMER_PAGE << 12 => self.frames[AREAS] << 12 | self.rng.below(256),
                 0..=5 => 256 * falls + self.rng.pick(&[0, 1, 255]),
                 _ => self.rng.pick(&[0, 255, 256, 0x200, 0x8000_0000, 0xFFFF_FFFF]),
             };
@@ -698,8 +1093,8 @@ impl<'a> Guest<'a> {
         let marked = self.rng.percent(50);
         for frame in 0..self.case.keys.len() {
             let marks = if marked { 0x06 } else { self.rng.byte() & 0x06 };
-            let fetch = if self.rng.percent(15) { 0x08 } else { 0 };
-            let access = if self.rng.percent(6) { self.rng.byte() & 0xF0 } else { self.key << 4 };
+            let fetch = if self.rng.percent(if self.supervised { 8 } else { 15 }) { 0x08 } else { 0 };
+            let access = if self.rng.percent(6) { self.rng.byte() & 0xF0 } else { self.modes.key << 4 };
             self.case.keys[frame] = access | fetch | marks | self.rng.byte() & 0x01;
         }
         if self.has(Theme::Psws) && self.rng.percent(30) {
@@ -711,6 +1106,12 @@ impl<'a> Guest<'a> {
             let access = self.rng.byte() & 0xF0;
             self.case.keys[self.frames[OTHER_DATA] as usize] = access | self.rng.byte() & 0x0E;
         }
+        if self.fault == Some(Fault::Key) {
+            let frame = self.frames[OTHER_DATA] as usize;
+            let access = (self.modes.key ^ self.rng.range(1, 15) as u8) << 4;
+            let fetch = if self.rng.percent(60) { 0x08 } else { 0 };
+            self.case.keys[frame] = access | fetch | self.case.keys[frame] & 0x07;
+        }
     }
 
     // -----------------------------------------------------------------------------------------------------------
@@ -720,12 +1121,16 @@ impl<'a> Guest<'a> {
         for number in 0..4 {
             let text = if number < 2 { self.lay_loop(number) } else { self.lay_handler(number) };
             let address = self.fragments[number].address;
-            // Where the other setting of DAT finds it, too; mostly that is the same place.
-            if self.dat {
-                self.poke_for(false, address, &text);
-            }
-            self.poke(address, &text);
+            self.poke_twice(address, &text);
         }
+    }
+
+    /// Where the other setting of DAT finds it, too; mostly that is the same place.
+    fn poke_twice(&mut self, address: u32, bytes: &[u8]) {
+        if self.modes.dat {
+            self.poke_for(false, address, bytes);
+        }
+        self.poke(address, bytes);
     }
 
     /// Perhaps an inner loop, then the rest, and back or on to the other loop.
@@ -739,7 +1144,7 @@ impl<'a> Guest<'a> {
             self.emit(number, &mut text, &rx(0x41, self.register(COUNT), 0, 0, rounds));
             let start = text.len();
             for _ in 0..self.rng.range(1, 4) {
-                self.plain(number, &mut text);
+                self.lay_item(if self.supervised { 35 } else { 0 }, number, &mut text);
             }
             let one = rx(0x41, self.register(WORK), 0, 0, 1);
             self.emit(number, &mut text, &one);
@@ -749,13 +1154,11 @@ impl<'a> Guest<'a> {
             let back = rx(0x47, mask, 0, self.register(base), start as u16);
             self.emit(number, &mut text, &back);
         }
-        for _ in 0..self.rng.range(1, 8) {
-            if !self.themes.is_empty() && self.rng.percent(55) {
-                let theme = self.rng.pick(&self.themes.clone());
-                self.disturb(theme, number, &mut text);
-            } else {
-                self.plain(number, &mut text);
-            }
+        // Programs may be as short as SVC and the branch back.
+        let most = if self.supervised && self.rng.percent(35) { 2 } else { 8 };
+        let items = self.rng.range(1, most);
+        for _ in 0..items {
+            self.lay_item(if self.supervised { 75 } else { 55 }, number, &mut text);
         }
         let next = if number == 1 || self.rng.percent(25) { self.rng.pick(&[START, OTHER_START, START]) } else { base };
         let next = self.register(next);
@@ -771,6 +1174,16 @@ impl<'a> Guest<'a> {
             text[at] |= 1;
         }
         text
+    }
+
+    /// Of a theme with this chance.
+    fn lay_item(&mut self, chance: u32, number: usize, text: &mut Vec<u8>) {
+        if !self.themes.is_empty() && self.rng.percent(chance) {
+            let theme = self.rng.pick(&self.themes.clone());
+            self.disturb(theme, number, text);
+        } else {
+            self.plain(number, text);
+        }
     }
 
     fn emit(&mut self, number: usize, text: &mut Vec<u8>, instruction: &[u8]) {
@@ -869,7 +1282,7 @@ impl<'a> Guest<'a> {
                     self.exchange(VALUE, OTHER_VALUE, number, text);
                 }
                 for value in [VALUE, OTHER_VALUE] {
-                    let store = rx(0x50, self.register(value), 0, self.register(ENTRY), 0);
+                    let store = self.store_entry(value, number);
                     self.emit(number, text, &store);
                     self.use_operand(number, text);
                     if self.rng.percent(40) {
@@ -890,17 +1303,19 @@ impl<'a> Guest<'a> {
             }
             Theme::Psws => {
                 self.use_operand(number, text);
+                let (second, number) = (self.rng.byte(), self.rng.below(8));
                 match self.rng.below(10) {
-                    0..=4 => vec![0x0A, self.rng.pick(&[0, 1, 2, 0x80, 0xFF])],
-                    5 => s(0x82, 0, 0, (PSWS + 4) as u16),
-                    _ => s(0x82, self.rng.byte(), 0, (PSWS + 8 * self.rng.below(8)) as u16),
+                    0..=4 => self.call(),
+                    5 => self.with_value(0x82, 0, PSWS + 4),
+                    _ => self.with_value(0x82, second, PSWS + 8 * number),
                 }
             }
             Theme::Clocks => self.clock_operand(),
-            Theme::Controls if self.dat && self.rng.percent(50) => {
+            Theme::Controls if self.modes.dat && self.rng.percent(50) => {
                 // The other segment table, and back.
                 for values in [OTHER_CONTROLS, CONTROLS] {
-                    self.emit(number, text, &s(0xB7, 0x11, 0, values as u16 + 4));
+                    let load = self.with_value(0xB7, 0x11, values + 4);
+                    self.emit(number, text, &load);
                     self.use_operand(number, text);
                 }
                 return;
@@ -910,8 +1325,68 @@ impl<'a> Guest<'a> {
                 self.control_operand()
             }
             Theme::Exceptions => self.exception(number),
+            _ => return self.disturb_program(theme, number, text),
         };
         self.emit(number, text, &instruction);
+    }
+
+    /// The same for the themes of supervised guests.
+    fn disturb_program(&mut self, theme: Theme, number: usize, text: &mut Vec<u8>) {
+        let instruction = match theme {
+            Theme::Operations => self.refused_operation(number),
+            Theme::Operands => self.access(OTHER_OPERAND, true),
+            Theme::Targets if self.rng.percent(50) => vec![0x07, 0xF0 | self.register(WORD)],
+            Theme::Targets => rx(0x47, 15, 0, self.register(WORD), 0),
+            Theme::Walks => {
+                let index = self.register(INDEX);
+                self.emit(number, text, &rx(0x41, index, index, 0, self.step as u16));
+                self.access(INDEX, false)
+            }
+            Theme::Areas => {
+                self.store_area(number, text);
+                self.interrupt()
+            }
+            Theme::Paging => {
+                let store = self.store_entry(VALUE, number);
+                self.emit(number, text, &store);
+                self.access(OPERAND, false)
+            }
+            Theme::Prefix => {
+                for value in [VALUE, OTHER_VALUE] {
+                    let store = self.store_entry(value, number);
+                    self.emit(number, text, &store);
+                    if self.rng.percent(30) {
+                        break;
+                    }
+                    let interrupt = self.interrupt();
+                    self.emit(number, text, &interrupt);
+                }
+                return;
+            }
+            _ => self.call(),
+        };
+        self.emit(number, text, &instruction);
+    }
+
+    /// By ST, or by STCTL of a control register that has the same.
+    fn store_entry(&mut self, value: usize, number: usize) -> Vec<u8> {
+        let base = self.register(ENTRY);
+        if self.supervised && !self.states[number].problem && self.rng.percent(25) {
+            return s(0xB6, if value == VALUE { 0xAA } else { 0xBB }, base, 0);
+        }
+        rx(0x50, self.register(value), 0, base, 0)
+    }
+
+    fn call(&mut self) -> Vec<u8> {
+        vec![0x0A, self.rng.pick(&[0, 1, 2, 3, 3, 3, 0x80, 0xFF])]
+    }
+
+    fn interrupt(&mut self) -> Vec<u8> {
+        if self.rng.percent(70) {
+            self.call()
+        } else {
+            self.unassigned_operation()
+        }
     }
 
     /// Two registers exchange what they have, so that each round has another.
@@ -973,31 +1448,166 @@ impl<'a> Guest<'a> {
 
     fn clock_operand(&mut self) -> Vec<u8> {
         let second = self.rng.pick(&[0x05, 0x05, 0x09, 0x09, 0x08]);
-        let base = self.rng.pick(&[OPERAND, OTHER_OPERAND]);
-        let at = model::word(&self.case.record, GR + 4 * self.registers[base] as usize);
-        // On a doubleword mostly.
-        let aligned = (8 - at % 8) % 8 + 8 * self.rng.below(3);
         if second == 0x08 && self.rng.percent(85) {
-            return s(0xB2, second, 0, (TIMERS + 8 * self.rng.below(8)) as u16);
+            let number = self.rng.below(8);
+            return self.with_value(0xB2, second, TIMERS + 8 * number);
         }
-        let displacement = if self.rng.percent(second as u32 / 8 * 75) { aligned } else { self.rng.below(16) };
-        s(0xB2, second, self.register(base), displacement as u16)
+        if self.rng.percent(8) {
+            return s(0xB2, second, 0, self.rng.pick(&[24, 32, 40, 80, 136, 144, 160, 504, 508, 512]));
+        }
+        let base = self.operand_role();
+        self.with_operand(base, 0xB2, second, if second == 0x05 { 1 } else { 8 })
     }
 
     /// LCTL of the values laid for the range, one register mostly; STCTL to an operand.
     fn control_operand(&mut self) -> Vec<u8> {
+        let range = self.control_range();
+        if self.rng.percent(65) {
+            return self.load_controls(range);
+        }
+        if self.rng.percent(8) {
+            return s(0xB6, range, 0, self.rng.pick(&[0, 16, 28, 48, 76, 132, 148, 448, 504, 508]));
+        }
+        let base = self.operand_role();
+        self.with_operand(base, 0xB6, range, 4)
+    }
+
+    /// One of the operands, mostly one that can be accessed.
+    fn operand_role(&mut self) -> usize {
+        if self.fault.is_some() && self.rng.percent(90) {
+            return OPERAND;
+        }
+        self.rng.pick(&[OPERAND, OTHER_OPERAND])
+    }
+
+    fn load_controls(&mut self, range: u8) -> Vec<u8> {
+        let values = self.rng.pick(&[CONTROLS, OTHER_CONTROLS]);
+        let end = 2048 - self.values % 2048;
+        if self.values_by_register && (values + 4..values + 0x60).contains(&end) && self.rng.percent(50) {
+            // Over the end of the block.
+            let word = (end - values) / 4 - 1;
+            let range = (word % 16) << 4 | (word + self.rng.range(1, 4)) % 16;
+            return self.with_value(0xB7, range as u8, values + 4 * word);
+        }
+        let off = self.rng.percent(3) as u32;
+        self.with_value(0xB7, range, values + 4 * (range as u32 >> 4) + off)
+    }
+
+    fn control_range(&mut self) -> u8 {
         let first = if self.rng.percent(55) { self.rng.below(2) } else { self.rng.below(16) };
         let count = if self.rng.percent(70) { self.rng.below(3) } else { self.rng.below(16) };
-        let range = (first << 4 | (first + count) % 16) as u8;
-        if self.rng.percent(65) {
-            let values = self.rng.pick(&[CONTROLS, OTHER_CONTROLS]) + 4 * first;
-            return s(0xB7, range, 0, values as u16 + self.rng.percent(3) as u16);
+        (first << 4 | (first + count) % 16) as u8
+    }
+
+    /// An operation on one of the values to load.
+    fn with_value(&self, operation: u8, second: u8, offset: u32) -> Vec<u8> {
+        if self.values_by_register {
+            return s(operation, second, self.register(TWIN), offset as u16);
         }
-        let base = self.rng.pick(&[OPERAND, OTHER_OPERAND]);
-        let at = model::word(&self.case.record, GR + 4 * self.registers[base] as usize);
-        let displacement =
-            if self.rng.percent(92) { (4 - at % 4) % 4 + 4 * self.rng.below(8) } else { self.rng.below(32) };
-        s(0xB6, range, self.register(base), displacement as u16)
+        s(operation, second, 0, (self.values + offset) as u16)
+    }
+
+    /// An operation on an operand, mostly on its boundary.
+    fn with_operand(&mut self, role: usize, operation: u8, second: u8, boundary: u32) -> Vec<u8> {
+        let at = self.value(role);
+        let displacement = match self.rng.below(100) {
+            0..=95 => (boundary - at % boundary) % boundary + boundary * self.rng.below(3),
+            _ => self.rng.below(16),
+        };
+        s(operation, second, self.register(role), displacement as u16)
+    }
+
+    /// An operation on an operand; of loads that change more than a register only where they fail.
+    fn access(&mut self, role: usize, fails: bool) -> Vec<u8> {
+        let (first, range) = (self.work() << 4, self.control_range());
+        let (operation, second, boundary) = match self.rng.below(if fails { 20 } else { 12 }) {
+            0..=2 => (0x58, first, 1),
+            3..=5 => (0x50, first, 1),
+            6..=7 => (0xB2, 0x05, 1),
+            8..=9 => (0xB2, 0x09, 8),
+            10..=11 => (0xB6, range, 4),
+            12..=13 => (0xB2, 0x08, 8),
+            14..=16 => (0x82, 0, 8),
+            _ => (0xB7, range, 4),
+        };
+        self.with_operand(role, operation, second, boundary)
+    }
+
+    /// One that ends in an exception; in supervisor state some are done, or are exits.
+    fn refused_operation(&mut self, number: usize) -> Vec<u8> {
+        let own = self.register(if number == 1 { OTHER_START } else { START });
+        match self.rng.below(12) {
+            0..=5 => self.unassigned_operation(),
+            6..=8 => self.privileged_operation(number),
+            9..=10 => self.operation_off_boundary(),
+            _ => rx(0x47, self.rng.pick(&[15, 1, 4, 8]), 0, own, 1),
+        }
+    }
+
+    /// Of one, two or three halfwords, those of the other architecture too.
+    fn unassigned_operation(&mut self) -> Vec<u8> {
+        let foreign = if self.system_370() { [0xB2, 0x30] } else { [0x9C, 0] };
+        match self.rng.below(3) {
+            0 => vec![self.rng.pick(&[0x00, 0x01, 0x19, 0x1C, 0x3F]), self.rng.byte()],
+            1 => {
+                let [first, second] = self.rng.pick(&[[0x40, 0x12], [0x90, 0xEC], [0xB2, 0x04], [0xBF, 0xFF], foreign]);
+                s(first, second, 0, 0)
+            }
+            _ => vec![self.rng.pick(&[0xC0, 0xD2, 0xF3, 0xFF]), self.rng.byte(), 0, 0, 0, 0],
+        }
+    }
+
+    fn privileged_operation(&mut self, number: usize) -> Vec<u8> {
+        let (value, range) = (self.rng.below(4), self.control_range());
+        let exits = self.states[number].problem || self.rng.percent(20);
+        match self.rng.below(if exits { 8 } else { 5 }) {
+            0 => self.with_value(0x82, 0, PSWS + 8 * value),
+            1 => self.with_value(0xB2, 0x08, TIMERS + 8 * value),
+            2 => self.with_operand(OPERAND, 0xB2, 0x09, 8),
+            3 => self.with_value(0xB7, range, CONTROLS + 4 * (range as u32 >> 4)),
+            4 => self.with_operand(OPERAND, 0xB6, range, 4),
+            5 => s(0x83, self.rng.byte(), 0, 0),
+            6 => s(0xAE, self.rng.byte(), 0, 0),
+            _ if self.system_370() => s(0x9C + value as u8, 0, 0, 0),
+            _ => s(0xB2, 0x30 + self.rng.below(13) as u8, 0, 0),
+        }
+    }
+
+    fn operation_off_boundary(&mut self) -> Vec<u8> {
+        let (range, word, doubleword) = (self.control_range(), self.rng.range(1, 3), self.rng.range(1, 7));
+        match self.rng.below(5) {
+            0 => self.with_value(0x82, 0, PSWS + doubleword),
+            1 => self.with_value(0xB2, 0x08, TIMERS + doubleword),
+            2 => self.with_value(0xB2, 0x09, TIMERS + doubleword),
+            3 => self.with_value(0xB7, range, CONTROLS + word),
+            _ => self.with_value(0xB6, range, CONTROLS + word),
+        }
+    }
+
+    /// Into the new PSWs, the old ones and the fields beside them, by page 0 or by the alias; or a load of these.
+    fn store_area(&mut self, number: usize, text: &mut Vec<u8>) {
+        let base = if self.values_by_register || self.rng.percent(50) { 0 } else { self.register(TWIN) };
+        let work = self.work();
+        let instruction = match self.rng.below(12) {
+            0..=3 => {
+                self.exchange(VALUE, OTHER_VALUE, number, text);
+                rx(0x50, self.register(VALUE), 0, base, self.rng.pick(&[100, 100, 100, 108]))
+            }
+            4..=6 => {
+                let (range, at) = self.rng.pick(&[(0x45, 96), (0x67, 104), (0x47, 96), (0x89, 96), (0x89, 104)]);
+                s(0xB6, range, base, at)
+            }
+            7..=8 => {
+                // The CPU timer is a new PSW, when it is stored.
+                let load = self.with_value(0xB2, 0x08, TIMERS + 56);
+                self.emit(number, text, &load);
+                s(0xB2, 0x09, base, 96)
+            }
+            9 => s(0xB2, 0x05, base, self.rng.pick(&[24, 32, 40, 80, 93, 136, 140, 144])),
+            10 => rx(0x50, work, 0, base, self.rng.pick(&[32, 36, 40, 44, 80, 104, 136, 140, 144])),
+            _ => rx(0x58, work, 0, base, self.rng.pick(&[32, 36, 40, 44, 80, 96, 136, 140, 144])),
+        };
+        self.emit(number, text, &instruction);
     }
 
     fn exception(&mut self, number: usize) -> Vec<u8> {
@@ -1008,8 +1618,7 @@ impl<'a> Guest<'a> {
             0 => vec![self.rng.pick(&[0, 0x01, 0x19, 0x1C]), self.rng.byte()],
             1 => s(self.rng.pick(&[0x42, 0x90, 0xB2]), 0xFF, 0, 0),
             2 => vec![0xD2, 0, 0, 0, 0, 0],
-            3 => s(0x82, 0, 0, (PSWS + self.rng.range(1, 7)) as u16),
-            4 => s(0xB2, self.rng.pick(&[0x08, 0x09]), 0, (TIMERS + self.rng.range(1, 7)) as u16),
+            3..=4 => self.operation_off_boundary(),
             5 => s(self.rng.pick(&[0x83, 0xAE, 0x9C]), 0, 0, 0),
             6 => rx(0x47, self.rng.pick(&[1, 4, 8]), 0, own, 1),
             7..=8 => rx(0x50, first, 0, other, self.rng.below(4) as u16),
@@ -1023,33 +1632,96 @@ impl<'a> Guest<'a> {
     fn lay_handler(&mut self, number: usize) -> Vec<u8> {
         let mut text = Vec::new();
         self.fragments[number].starts.clear();
-        for _ in 0..self.rng.below(3) {
-            match self.rng.below(10) {
-                0..=2 if self.has(Theme::Tables) => {
-                    let mend = rx(0x50, self.register(OTHER_VALUE), 0, self.register(ENTRY), 0);
-                    self.emit(number, &mut text, &mend);
-                }
-                3 if self.has(Theme::Clocks) => {
-                    let clock = self.clock_operand();
-                    self.emit(number, &mut text, &clock);
-                }
-                4 if self.has(Theme::Controls) => {
-                    let control = self.control_operand();
-                    self.emit(number, &mut text, &control);
-                }
-                _ => {
-                    let (first, second) = (self.work(), self.work());
-                    let sum = vec![self.rng.pick(&[0x18, 0x1A, 0x1B]), first << 4 | second];
-                    self.emit(number, &mut text, &sum);
-                }
-            }
+        if number == 3 {
+            self.lay_remedy(number, &mut text);
         }
-        let back = if self.rng.percent(85) {
-            s(0x82, 0, 0, if number == 2 { 32 } else { 40 })
-        } else {
-            rx(0x47, 15, 0, self.register(START), 0)
-        };
-        self.emit(number, &mut text, &back);
+        for _ in 0..self.rng.below(3) {
+            if self.has(Theme::Areas) && self.rng.percent(40) {
+                self.store_area(number, &mut text);
+                continue;
+            }
+            let instruction = self.instruction_of_handler(number);
+            self.emit(number, &mut text, &instruction);
+        }
+        for instruction in self.instructions_back(number) {
+            self.emit(number, &mut text, &instruction);
+        }
+        text
+    }
+
+    /// The page is given back, the walk begins again, control registers are as at first.
+    fn lay_remedy(&mut self, number: usize, text: &mut Vec<u8>) {
+        if self.has(Theme::Paging) && self.rng.percent(90) {
+            let mend = self.store_entry(OTHER_VALUE, number);
+            self.emit(number, text, &mend);
+        }
+        if self.has(Theme::Walks) && self.rng.percent(90) {
+            self.emit(number, text, &[0x18, self.register(INDEX) << 4 | self.register(OPERAND)]);
+        }
+        if self.supervised && self.has(Theme::Controls) && self.modes.dat && self.rng.percent(60) {
+            let load = self.with_value(0xB7, 0x01, CONTROLS);
+            self.emit(number, text, &load);
+        }
+    }
+
+    fn instruction_of_handler(&mut self, number: usize) -> Vec<u8> {
+        let (first, second) = (self.work(), self.work());
+        match self.rng.below(20) {
+            0..=5 if self.has(Theme::Tables) => self.store_entry(OTHER_VALUE, number),
+            0..=3 if self.has(Theme::Controls) => self.control_operand(),
+            4..=8 if self.has(Theme::Clocks) => self.clock_operand(),
+            9..=10 if self.supervised => rx(0x58, first, 0, 0, self.rng.pick(&[32, 36, 40, 44, 136, 140, 144])),
+            11..=13 if self.supervised => self.access(OPERAND, false),
+            // An interruption of the other kind.
+            14 if self.supervised && number == 2 => self.refused_operation(number),
+            14 if self.supervised => self.call(),
+            _ => vec![self.rng.pick(&[0x18, 0x1A, 0x1B]), first << 4 | second],
+        }
+    }
+
+    /// By the old PSW mostly, as it is or changed; by another one; by those of two tasks in turn; by a branch.
+    fn instructions_back(&mut self, number: usize) -> Vec<Vec<u8>> {
+        let old: u16 = if number == 2 { 32 } else { 40 };
+        let back = s(0x82, 0, 0, old);
+        let branch = rx(0x47, 15, 0, self.register(START), 0);
+        if !self.supervised {
+            return vec![if self.rng.percent(85) { back } else { branch }];
+        }
+        let [first, second] = [WORK, WORK + 1].map(|role| self.register(role));
+        // The old PSW leads again to what fails.
+        let fails_again = self.has(Theme::Targets) || matches!(self.fault, Some(Fault::Page | Fault::Segment));
+        let otherwise = number == 3 && fails_again && self.rng.percent(60);
+        match if otherwise { self.rng.range(12, 17) } else { self.rng.below(20) } {
+            12..=14 => {
+                let length = rx(0x41, first, 0, 0, self.rng.pick(&[2, 4, 4, 6]));
+                let load = rx(0x58, second, 0, 0, old + 4);
+                let store = rx(0x50, second, 0, 0, old + 4);
+                vec![length, load, vec![0x1A, second << 4 | first], store, back]
+            }
+            15..=16 => vec![self.with_value(0x82, 0, PSWS + 8 * (number as u32 & 3))],
+            17 => vec![branch],
+            18 => {
+                let load = self.with_value(0x58, first << 4, PSWS);
+                vec![load, rx(0x50, first, 0, 0, old), back]
+            }
+            19 if !self.has(Theme::Targets) => self.instructions_to_other_task(old),
+            _ => vec![back],
+        }
+    }
+
+    /// The old PSW is saved, and the one that was saved before is loaded.
+    fn instructions_to_other_task(&self, old: u16) -> Vec<Vec<u8>> {
+        let [first, second, between] = [WORK, WORK + 1, WORK + 3].map(|role| self.register(role));
+        let [task, other] = [WORD, OTHER_WORD].map(|role| self.register(role));
+        let mut text = Vec::new();
+        for (register, at) in [(first, 0), (second, 4)] {
+            text.push(rx(0x58, register, 0, 0, old + at));
+            text.push(rx(0x50, register, 0, task, at));
+        }
+        for (to, from) in [(between, task), (task, other), (other, between)] {
+            text.push(vec![0x18, to << 4 | from]);
+        }
+        text.push(s(0x82, 0, task, 0));
         text
     }
 
@@ -1066,44 +1738,72 @@ impl<'a> Guest<'a> {
         }
         for (new, handler) in [(96, 2), (104, 3)] {
             let mut psw = match self.rng.below(20) {
-                0..=1 => self.strange_psw(handler),
-                2..=3 => self.psw(0),
+                0 => self.strange_psw(handler),
+                1..=3 if !self.supervised => self.psw(0),
                 _ => self.psw(handler),
             };
             // The handlers are privileged, mostly.
             if self.rng.percent(95) {
                 psw[1] &= !0x01;
             }
-            if self.dat && self.rng.percent(30) {
+            if self.modes.dat && self.rng.percent(30) {
                 psw[0] &= !0x04;
             }
             self.poke_for(false, new, &psw);
         }
         for number in 0..8 {
             let fragment = self.rng.below(2) as usize;
-            let psw = if self.rng.percent(50) { self.strange_psw(fragment) } else { self.psw(fragment) };
-            self.poke(PSWS + 8 * number, &psw);
-            let timer = if self.rng.percent(70) { self.moment() } else { self.rng.next() };
-            self.poke(TIMERS + 8 * number, &timer.to_be_bytes());
+            let strange = if !self.supervised || [4, 5].contains(&number) { 50 } else { 0 };
+            let psw = if self.rng.percent(strange) { self.strange_psw(fragment) } else { self.psw(fragment) };
+            self.poke_twice(self.values + PSWS + 8 * number, &psw);
+            let timer = self.timer_value();
+            self.poke_twice(self.values + TIMERS + 8 * number, &timer.to_be_bytes());
+        }
+        if self.has(Theme::Areas) {
+            let timer = u64::from_be_bytes(self.psw(2)).wrapping_add(self.case.time as u64);
+            self.poke_twice(self.values + TIMERS + 56, &timer.to_be_bytes());
         }
         for (at, other) in [(CONTROLS, false), (OTHER_CONTROLS, true)] {
             let mut values = self.case.record[CR..CR + 64].to_vec();
-            let mut control = self.control_register_0();
-            // Not the format of DAT.
-            if self.rng.percent(if self.dat { 20 } else { 4 }) {
-                control ^= 1 << self.rng.range(19, 23);
+            // Perhaps the same value again.
+            if other || self.rng.percent(60) {
+                let mut control = self.control_register_0();
+                // Not the format of DAT.
+                if self.rng.percent(if self.modes.dat { 20 } else { 4 }) {
+                    control ^= 1 << self.rng.range(19, 23);
+                }
+                model::set_word(&mut values, 0, control);
             }
-            model::set_word(&mut values, 0, control);
-            if other && self.dat {
+            if other && self.modes.dat {
                 let designation = match self.rng.below(10) {
-                    0 => GUEST_SEGMENTS,
-                    1 => 16 * self.extent << 12 | 127,
+                    // The same table of another length.
+                    0..=2 => GUEST_SEGMENTS | !values[7] as u32 & 127,
+                    3 => 16 * self.extent << 12 | 127,
                     _ => OTHER_GUEST_SEGMENTS | self.rng.pick(&[0, 127]),
                 };
                 model::set_word(&mut values, 4, designation);
             }
             values.extend(values.clone());
-            self.poke(at, &values);
+            self.poke_twice(self.values + at, &values);
+        }
+    }
+
+    /// A value for SPT: due after some units, after very few, at once, or late.
+    fn timer_value(&mut self) -> u64 {
+        let time = self.case.time as u64;
+        match self.rng.below(10) {
+            0..=3 => self.moment(),
+            4..=6 => (time * self.rng.below(4) as u64).wrapping_add(self.rng.below(3) as u64).wrapping_sub(1),
+            7 => self.rng.pick(&[u64::MAX, 1 << 63, (1 << 63) + time, 0u64.wrapping_sub(time)]),
+            _ => self.rng.next() >> 1,
+        }
+    }
+
+    /// The frame that the prefix page may get has what the areas have.
+    fn copy_areas(&mut self) {
+        if self.has(Theme::Prefix) {
+            let [from, to] = [AREAS, DATA].map(|role| self.frames[role] as usize * FRAME);
+            self.case.storage.copy_within(from..from + FRAME, to);
         }
     }
 }

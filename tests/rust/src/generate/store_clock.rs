@@ -1,7 +1,7 @@
 //! Guests that read the clock: loops of STCK with the place moving, readings over each other, across pages, and where
 //! nothing can be stored; interruptions, loaded PSWs and exits between them; STCK where the run found other text.
 
-use super::{Case, Machine, Rng, CR, GR};
+use super::{Case, Machine, Modes, Rng, CR, GR};
 use crate::model::{self, Answer, FRAME};
 
 pub fn case(rng: &mut Rng, machine: Machine) -> Case {
@@ -55,9 +55,7 @@ struct Guest<'a> {
     rng: &'a mut Rng,
     machine: Machine,
     case: Case,
-    dat: bool,
-    wide: bool,
-    key: u8,
+    modes: Modes,
     /// Where the loop begins.
     start: u32,
     /// Offsets of instructions that do nothing, for STCK to be stored there.
@@ -68,19 +66,16 @@ struct Guest<'a> {
 
 impl<'a> Guest<'a> {
     fn new(rng: &'a mut Rng, machine: Machine) -> Guest<'a> {
-        let mut record = vec![0; if machine == Machine::Xa { 200 } else { 208 }];
-        record[1] = record.len() as u8;
-        record[2] = if machine == Machine::Xa { 1 } else { 2 };
-        record[4] = if machine == Machine::System370 { 0x04 } else { 0x08 };
+        let mut record = machine.record();
         record[15] = 1;
         let (storage, keys, addresses) = (vec![0; 8 * FRAME], vec![0; 8], Vec::new());
         let case = Case { record, storage, keys, designation: 127, clock: 0, time: 1, budget: 1, addresses };
         let xa = machine != Machine::System370;
         let (dat, wide) = (xa && rng.percent(50), xa && rng.percent(60));
-        let key = if rng.percent(60) { 0 } else { 3 };
+        let modes = Modes { dat, wide, key: if rng.percent(60) { 0 } else { 3 } };
         let start = 0x1000 + rng.pick(&[0, 0, 0x400, 0xF00, 0xFA0]);
         let clock_is_text = rng.percent(6);
-        Guest { rng, machine, case, dat, wide, key, start, slots: Vec::new(), clock_is_text }
+        Guest { rng, machine, case, modes, start, slots: Vec::new(), clock_is_text }
     }
 
     fn system_370(&self) -> bool {
@@ -132,7 +127,7 @@ impl<'a> Guest<'a> {
 
     /// Identity, and pages that cannot be stored into. Segment 1 is invalid.
     fn lay_guest_tables(&mut self) {
-        if !self.dat {
+        if !self.modes.dat {
             return;
         }
         model::set_word(&mut self.case.record, CR + 4, TABLES);
@@ -213,7 +208,7 @@ impl<'a> Guest<'a> {
 
     fn psw(&mut self, address: u32) -> [u8; 8] {
         let mut psw = [0; 8];
-        psw[1] = self.key << 4;
+        psw[1] = self.modes.key << 4;
         psw[1] |= if self.rng.percent(12) { 0x01 } else { 0 };
         let basic = self.system_370() && self.rng.percent(50);
         if !basic {
@@ -221,11 +216,11 @@ impl<'a> Guest<'a> {
         }
         let mask = if self.rng.percent(40) { 0x08 } else { 0 };
         psw[if basic { 4 } else { 2 }] = mask;
-        psw[0] = if self.dat { 0x04 } else { 0 };
+        psw[0] = if self.modes.dat { 0x04 } else { 0 };
         psw[0] |= if self.rng.percent(25) { 0x01 } else { 0 };
         psw[0] |= if self.rng.percent(25) { 0x02 } else { 0 };
         psw[5..8].copy_from_slice(&address.to_be_bytes()[1..]);
-        psw[4] |= if self.wide { 0x80 } else { 0 };
+        psw[4] |= if self.modes.wide { 0x80 } else { 0 };
         psw
     }
 
@@ -248,15 +243,9 @@ impl<'a> Guest<'a> {
     fn choose_numbers(&mut self) {
         let time = match self.rng.below(100) {
             0..=2 => 0,
-            3..=34 => 1,
-            35..=44 => 2,
-            45..=59 => self.rng.range(3, 100),
-            60..=66 => 4096,
-            67..=73 => 1_048_575,
-            74..=86 => 1_048_576,
-            87 => 1_048_577,
-            88 => self.rng.pick(&[0x0020_0000, 0x8000_0000, 0xFFFF_FFFF]),
-            _ => self.rng.range(1, 1_048_576),
+            3 => 1_048_577,
+            4 => self.rng.pick(&[0x0020_0000, 0x8000_0000, 0xFFFF_FFFF]),
+            _ => self.machine.time(self.rng),
         };
         self.case.time = time;
         self.case.budget = match self.rng.below(1000) {

@@ -1,0 +1,5 @@
+pub mod Deciding
+pub mod Operating
+pub mod Calling
+pub mod Meeting
+pub mod Singling

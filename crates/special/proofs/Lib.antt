@@ -1,0 +1,3 @@
+pub mod Performing
+pub mod Leaving
+pub mod Instructions

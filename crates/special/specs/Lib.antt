@@ -1,0 +1,3 @@
+pub mod Performing
+pub mod Storing
+pub mod Singling
