@@ -42,7 +42,7 @@ command -v valgrind > /dev/null || part 'installation of valgrind' install_valgr
 part layout rt fmt --check
 stop_if_failed
 crates=$(grep -c '^[a-z]' crates.txt)
-echo "gate: 20 to 26 minutes on two processors; what the prover says goes to $LOG"
+echo "gate: about half an hour on two processors; what the prover says goes to $LOG"
 part 'proofs and must-fail edits' sh tools/progress.sh "$LOG" "$crates" ci
 stop_if_failed
 part build make all
