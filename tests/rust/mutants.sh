@@ -808,9 +808,13 @@ prefix_page_kept "a store into a table" 'interruption.is_none()'
 prefix_page_kept "a store by an interruption" 'interruption.is_some()'
 
 # Blocks kept over stores into tables, over the PSW of an interruption, or over that of LPSW alone.
-for operation in StoreControl StoreClock StoreCpuTimer; do
-    mutant "laps: block kept over a store into a table by $operation" "$last; $kept; s/cr1 \|\| stored \{/cr1 || stored \&\& !matches!(NOW.with(|now| now.get()), Some(Operation::$operation)) {/"
-done
+# kept_over_store INSTRUCTION OPERATION
+kept_over_store() {
+    mutant "laps: block kept over a store into a table by $1" "$last; $kept; s/cr1 \\|\\| stored \\{/cr1 || stored \\&\\& !matches!(NOW.with(|now| now.get()), Some(Operation::$2)) {/"
+}
+kept_over_store STCTL StoreControl
+kept_over_store STCK StoreClock
+kept_over_store STPT StoreCpuTimer
 mutant "laps: block kept over the key of a new PSW" "$kept"'; s/dat \|\| key \|\| cr0/dat || key \&\& interruption.is_none() || cr0/'
 mutant "laps: block kept over the DAT of a new PSW" "$kept"'; s/if dat \|\| key/if dat \&\& interruption.is_none() || key/'
 mutant "laps: block kept over the key of LPSW's PSW" "$kept"'; s/dat \|\| key \|\| cr0/dat || key \&\& interruption.is_some() || cr0/'

@@ -22,6 +22,7 @@ pub fn case(rng: &mut Rng, machine: Machine) -> Case {
     guest.choose_requests();
     guest.lay_fragments();
     guest.lay_areas();
+    guest.lay_values();
     guest.set_interval_timer();
     guest.copy_areas();
     guest.set_keys();
@@ -1598,7 +1599,6 @@ impl<'a> Guest<'a> {
                 s(0xB6, range, base, at)
             }
             7..=8 => {
-                // The CPU timer is a new PSW, when it is stored.
                 let load = self.with_value(0xB2, 0x08, TIMERS + 56);
                 self.emit(number, text, &load);
                 s(0xB2, 0x09, base, 96)
@@ -1725,10 +1725,9 @@ impl<'a> Guest<'a> {
         text
     }
 
-    /// New PSWs, and what LPSW, LCTL and SPT load.
+    /// New PSWs, and where branches lead in turn.
     fn lay_areas(&mut self) {
         if self.has(Theme::Branches) {
-            // Where the branches lead in turn.
             for word in [WORD, OTHER_WORD] {
                 let fragment = &self.fragments[self.rng.below(2) as usize];
                 let start = if self.rng.percent(50) { self.rng.pick(&fragment.starts) } else { 0 };
@@ -1739,18 +1738,23 @@ impl<'a> Guest<'a> {
         for (new, handler) in [(96, 2), (104, 3)] {
             let mut psw = match self.rng.below(20) {
                 0 => self.strange_psw(handler),
-                1..=3 if !self.supervised => self.psw(0),
+                1 if !self.supervised => self.strange_psw(handler),
+                2..=3 if !self.supervised => self.psw(0),
                 _ => self.psw(handler),
             };
             // The handlers are privileged, mostly.
             if self.rng.percent(95) {
                 psw[1] &= !0x01;
             }
-            if self.modes.dat && self.rng.percent(30) {
+            if self.modes.dat && !self.supervised && self.rng.percent(30) {
                 psw[0] &= !0x04;
             }
             self.poke_for(false, new, &psw);
         }
+    }
+
+    /// What LPSW, SPT and LCTL load.
+    fn lay_values(&mut self) {
         for number in 0..8 {
             let fragment = self.rng.below(2) as usize;
             let strange = if !self.supervised || [4, 5].contains(&number) { 50 } else { 0 };
@@ -1760,18 +1764,14 @@ impl<'a> Guest<'a> {
             self.poke_twice(self.values + TIMERS + 8 * number, &timer.to_be_bytes());
         }
         if self.has(Theme::Areas) {
+            // A new PSW, once its unit's time is taken off.
             let timer = u64::from_be_bytes(self.psw(2)).wrapping_add(self.case.time as u64);
             self.poke_twice(self.values + TIMERS + 56, &timer.to_be_bytes());
         }
         for (at, other) in [(CONTROLS, false), (OTHER_CONTROLS, true)] {
             let mut values = self.case.record[CR..CR + 64].to_vec();
-            // Perhaps the same value again.
             if other || self.rng.percent(60) {
-                let mut control = self.control_register_0();
-                // Not the format of DAT.
-                if self.rng.percent(if self.modes.dat { 20 } else { 4 }) {
-                    control ^= 1 << self.rng.range(19, 23);
-                }
+                let control = self.other_control_register_0();
                 model::set_word(&mut values, 0, control);
             }
             if other && self.modes.dat {
@@ -1786,6 +1786,15 @@ impl<'a> Guest<'a> {
             values.extend(values.clone());
             self.poke_twice(self.values + at, &values);
         }
+    }
+
+    fn other_control_register_0(&mut self) -> u32 {
+        let control = self.control_register_0();
+        // Not the format of DAT.
+        if self.rng.percent(if self.modes.dat { 20 } else { 4 }) {
+            return control ^ 1 << self.rng.range(19, 23);
+        }
+        control
     }
 
     /// A value for SPT: due after some units, after very few, at once, or late.
