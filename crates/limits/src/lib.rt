@@ -1,5 +1,7 @@
 // The verdicts on what comes beside the record: storage and keys, budget and time, access kind. Each contract equates with tests of
 // machine's Refusals.
+#![tactic(auto)]
+
 ghost use Rattle.std.specs.Prelude.{◌≡◌, true};
 ghost use Rattle.limits.specs.Parts.{storage_verdict, numbers_verdict, access_verdict};
 

@@ -1,4 +1,6 @@
 // Big-endian halfwords, words and double words in byte slices, read and written: leaves. Each contract equates with the definition of machine's Words.
+#![tactic(auto)]
+
 ghost use Rattle.std.specs.Prelude.{◌≡◌, ◌+◌, ◌≤◌, ◌<◌, length};
 ghost use Rattle.std.proofs.lemmas.List.Edits.{sets};
 ghost use Rattle.machine.specs.Words.{half_at, word_at, double_at, half_bytes, word_bytes, double_bytes};
