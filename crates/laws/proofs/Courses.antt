@@ -53,6 +53,7 @@ when epoch clock (s ∷ more) (then same on follows) _ value (in_rest {i = i} st
       at = behind.at ∙ omega arith;
       within = omega (arith, behind.within);
     }
+when epoch clock [] _ i value stores = elim stores [ ]
 
 -- of two readings, the one of the later unit was later
 record Twice (start : ℕ) (course : List Stretch) (v w : ℕ) : Type 0 where
@@ -93,6 +94,7 @@ twice epoch clock (s ∷ more) (then same on follows) _ _ v w before (in_rest {i
       before = omega (arith, behind.before);
       within = omega (arith, behind.within);
     }
+twice epoch clock [] _ i j v w before stores _ = elim stores [ ]
 
 pub readings_of_a_course_differ : ReadingsOfACourseDiffer
 readings_of_a_course_differ epoch clock course follows short-enough i j v w before first second same =
