@@ -1,5 +1,7 @@
 // The guest clock and its comparator, the CPU timer, and what a unit's time adds to the clock and takes from the timer, all modulo
 // 2^64. Each contract equates with machine's Time.
+#![tactic(auto)]
+
 ghost use Rattle.std.specs.Prelude.{◌≡◌, nat_lt};
 ghost use Rattle.machine.specs.declared.Cpu.{Cpu};
 ghost use Rattle.machine.specs.Time.{guest_clock, comparator_due, timer_due, clock_after, timer_after};
