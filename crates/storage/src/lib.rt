@@ -1,5 +1,7 @@
 // The host's side of an address: what its tables say of a host virtual address, entry by entry, and the host page behind a guest
 // absolute one. Each contract equates with machine's Walk and Host; keys play no part.
+#![tactic(auto)]
+
 ghost use Rattle.std.specs.Prelude.{◌≡◌, cond, List, [], ℕ, ◌+◌, ◌≤◌, ◌<◌};
 ghost use Rattle.machine.specs.Words.{word_at};
 ghost use Rattle.machine.specs.Failures.{addressing, host_fault};

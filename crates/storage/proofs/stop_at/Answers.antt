@@ -1,0 +1,9 @@
+-- `storage::stop_at` meets its contract.
+use Rattle.machine.proofs.Tests.{tests}
+use Rattle.storage.proofs.stop_at.Goals as goal
+
+pub returns-then-at-storage : goal.returns-then-at-storage
+returns-then-at-storage c = search tests
+
+pub returns : goal.returns
+returns c = search tests
