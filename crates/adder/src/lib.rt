@@ -12,7 +12,7 @@ const SIGN: u64 = 2147483648;
 const WORDS: u64 = 4294967296;
 
 // What an addition or a subtraction of two words gives.
-#[derive(Drop)]
+#[derive(Clone, Copy)]
 pub struct Sum {
     pub value: u32,
     pub code: u32,

@@ -21,7 +21,7 @@ use prefixing::Space;
 use storage::Segment;
 
 // Where a byte stands in host storage, or why it cannot be reached.
-#[derive(Drop)]
+#[derive(Clone, Copy)]
 pub enum Place {
     At(u32),
     Denied(Failure),
@@ -110,7 +110,7 @@ pub fn table_word(storage: &[u8], page: u64, v: u32) -> u32
 }
 
 // The real page of a logical address as a number, and the host segment entry that was found last.
-#[derive(Drop)]
+#[derive(Clone, Copy)]
 struct Real {
     page: u64,
     kept: Segment,

@@ -19,7 +19,7 @@ const FRAME: usize = 4096;
 const MALFORMED: u64 = 2533274790395904;
 
 // The bytes that were read, and whether a read failed.
-#[derive(Drop)]
+#[derive(Clone, Copy)]
 struct Input {
     failed: bool,
     count: usize,

@@ -32,7 +32,7 @@ const SHORT_RECORD: usize = 200;
 const LONG_RECORD: usize = 208;
 
 // What a parser finds: the numbers and the frame count of a well-formed file.
-#[derive(Drop)]
+#[derive(Clone, Copy)]
 pub enum Case {
     Malformed,
     Good { numbers: Numbers, count: usize },

@@ -15,7 +15,7 @@ use interval::Word;
 use machine::{Cpu, End, Failure, Guest, Psw, Reason, Registers};
 
 // What the timer's word does at the end of a unit: nothing, it falls at this host absolute address, or it cannot be stored into.
-#[derive(Drop)]
+#[derive(Clone, Copy)]
 pub enum Due {
     Later,
     At(u32),
@@ -23,7 +23,7 @@ pub enum Due {
 }
 
 // The timer's request byte and its residue.
-#[derive(Drop)]
+#[derive(Clone, Copy)]
 pub struct Ticked {
     pub request: u8,
     pub residue: u32,

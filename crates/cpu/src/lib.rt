@@ -13,7 +13,7 @@ ghost use Rattle.cpu.specs.Before.{comparator_interrupts, timer_interrupts, inte
 use machine::{Guest, Psw, Reason, Registers, Text};
 
 // What the list before a unit comes to: an end, a specification exception, or the instruction.
-#[derive(Drop)]
+#[derive(Clone, Copy)]
 pub enum Before {
     Ends(Reason),
     Malformed,

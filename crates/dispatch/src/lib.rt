@@ -14,7 +14,7 @@ use interruptions::{Done, Event, Frames};
 use machine::{Class, Cpu, Guest, Opcode, Psw, Reason, Registers, Text};
 
 // What the tests before an instruction's operand come to: a program exception, code 4, or the instruction.
-#[derive(Drop)]
+#[derive(Clone, Copy)]
 pub enum Tests {
     Excepted(u32),
     Intercepted,

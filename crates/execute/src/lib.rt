@@ -17,7 +17,7 @@ use machine::{Cpu, Failure, Guest, Psw, Reason, Text};
 use operands::Operand;
 
 // An operand that an instruction has reached: where its bytes stand, as in address's Operand; or how the unit ended.
-#[derive(Drop)]
+#[derive(Clone, Copy)]
 pub struct Reached {
     pub shut: bool,
     pub first: u32,

@@ -12,7 +12,7 @@ ghost use Rattle.interruptions.specs.After.{ended_with, WithKeys, mark_text, lef
 use machine::{Cpu, Failure, Guest, Psw, Reason, Registers, Walk};
 
 // How a unit ends.
-#[derive(Drop)]
+#[derive(Clone, Copy)]
 pub enum Event {
     Completed,
     Intercepted(Reason),
@@ -20,7 +20,7 @@ pub enum Event {
 }
 
 // What a unit leaves: how it ended, and the state, in which one general register may have a new value (register 16: none).
-#[derive(Drop)]
+#[derive(Clone, Copy)]
 pub struct Done {
     pub event: Event,
     pub psw: Psw,
@@ -31,7 +31,7 @@ pub struct Done {
 }
 
 // The frames that an instruction's text was fetched from: none, one or two.
-#[derive(Drop)]
+#[derive(Clone, Copy)]
 pub struct Frames {
     pub count: u32,
     pub first: u32,
@@ -40,7 +40,7 @@ pub struct Frames {
 
 // An interruption: the real addresses of the old PSW, of the code fields and of the new PSW; the code's word, with the ILC in bits
 // 13-14 and the code in bits 16-31; and an address, which is stored behind it where long says so.
-#[derive(Drop)]
+#[derive(Clone, Copy)]
 pub struct Interruption {
     pub old: u32,
     pub code: u32,
@@ -51,7 +51,7 @@ pub struct Interruption {
 }
 
 // How an interruption comes out: its areas cannot be stored into, or the new PSW.
-#[derive(Drop)]
+#[derive(Clone, Copy)]
 pub enum Took {
     Shut(Failure),
     Open(Psw),

@@ -14,7 +14,7 @@ ghost use Rattle.interval.specs.Standing.{word_on, Short, Stands, InStorage};
 use machine::{Failure, Guest, Walk};
 
 // Where the word stands, a host absolute address, or why it cannot be stored into.
-#[derive(Drop)]
+#[derive(Clone, Copy)]
 pub enum Word {
     At(u32),
     Shut(Failure),

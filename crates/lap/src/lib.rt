@@ -15,7 +15,7 @@ use machine::Psw;
 
 // What a unit leaves: the place of the next instruction, the last sum, and one general register with its new value (register 16:
 // none); or what is wanted, and an address.
-#[derive(Drop)]
+#[derive(Clone, Copy)]
 pub struct Step {
     pub want: u32,
     pub a: usize,
@@ -27,7 +27,7 @@ pub struct Step {
 
 // Where a text stands: the first address of its block, the place of the block's first byte, and its own place; good if the block is
 // kept and the address even.
-#[derive(Drop)]
+#[derive(Clone, Copy)]
 pub struct Landing {
     pub good: bool,
     pub page: usize,
@@ -36,7 +36,7 @@ pub struct Landing {
 }
 
 // What a lap leaves: the address of the next instruction, the condition code and the units; and what is wanted, with an address.
-#[derive(Drop)]
+#[derive(Clone, Copy)]
 pub struct Lap {
     pub address: u32,
     pub code: u32,

@@ -1,14 +1,15 @@
 // The types that the definition of document 01 and the code share. The definition itself is in specs/, and the theorems
 // about it in proofs/. No code stands here.
+#![tactic(auto)]
 
 // Sixteen registers, moved together as one value.
-#[derive(Drop)]
+#[derive(Clone, Copy)]
 pub struct Registers {
     pub words: [u32; 16],
 }
 
 // The program status word: bits 0-31, bits 32-63, and whether it is read as System/370's, BC or EC, or as 370-XA's.
-#[derive(Drop)]
+#[derive(Clone, Copy)]
 pub struct Psw {
     pub left: u32,
     pub right: u32,
@@ -16,7 +17,7 @@ pub struct Psw {
 }
 
 // The part of the guest's state that units change.
-#[derive(Drop)]
+#[derive(Clone, Copy)]
 pub struct Cpu {
     pub psw: Psw,
     pub timer: u64,
@@ -26,7 +27,7 @@ pub struct Cpu {
 
 // The part of the guest's state that no unit changes. The prefix is the number of its 4 KiB block; svc holds the SVC flags
 // and svc1 to svc3 the SVC numbers.
-#[derive(Drop)]
+#[derive(Clone, Copy)]
 pub struct Guest {
     pub version: u8,
     pub interventions: u8,
@@ -45,7 +46,7 @@ pub struct Guest {
 }
 
 // The numbers handed in beside the record, the storage and the keys.
-#[derive(Drop)]
+#[derive(Clone, Copy)]
 pub struct Numbers {
     pub designation: u32,
     pub clock: u64,
@@ -56,7 +57,7 @@ pub struct Numbers {
 // Why an access cannot be made: a program exception of the guest, or a host fault. The code is the program code. The
 // address is the host virtual address of a host fault, the virtual address of a guest segment or page translation
 // exception with its last 12 bits zero, and zero for every other guest exception.
-#[derive(Drop)]
+#[derive(Clone, Copy)]
 pub struct Failure {
     pub host: bool,
     pub code: u32,
@@ -65,7 +66,7 @@ pub struct Failure {
 
 // The table whose entry was sought when a walk ended: the guest's or the host's, for a segment or for a page; none where an access
 // fails by no entry.
-#[derive(Drop)]
+#[derive(Clone, Copy)]
 pub enum Stage {
     None,
     GuestSegment,
@@ -75,28 +76,28 @@ pub enum Stage {
 }
 
 // Which table was bad: the stage, and the address of the entry, guest real or host absolute; zero where that entry was not read.
-#[derive(Drop)]
+#[derive(Clone, Copy)]
 pub struct Sought {
     pub stage: Stage,
     pub entry: u32,
 }
 
 // A table entry, or why it cannot be read.
-#[derive(Drop)]
+#[derive(Clone, Copy)]
 pub enum TableEntry {
     Word(u32),
     Unread(Failure),
 }
 
 // What a walk of a segment and a page table finds.
-#[derive(Drop)]
+#[derive(Clone, Copy)]
 pub enum Walk {
     Page { frame: u32, protected: bool },
     Failed(Failure),
 }
 
 // An instruction's length code, and its halfwords as far as they are fetched, the others zero.
-#[derive(Drop)]
+#[derive(Clone, Copy)]
 pub struct Text {
     pub ilc: u8,
     pub first: u16,
@@ -105,7 +106,7 @@ pub struct Text {
 }
 
 // The class of an opcode: the instruction of document 01's list, by its mnemonic; one of mandatory interception; or none.
-#[derive(Drop)]
+#[derive(Clone, Copy)]
 pub enum Class {
     Lr,
     Ar,
@@ -128,7 +129,7 @@ pub enum Class {
 
 // What the table of opcodes says of a first halfword. The length is counted in halfwords; the operand's address is a multiple
 // of the alignment.
-#[derive(Drop)]
+#[derive(Clone, Copy)]
 pub struct Opcode {
     pub length: u8,
     pub privileged: bool,
@@ -137,7 +138,7 @@ pub struct Opcode {
 }
 
 // Why a guest is intercepted.
-#[derive(Drop)]
+#[derive(Clone, Copy)]
 pub enum Reason {
     Instruction(Text),
     Program { code: u16, ilc: u8, address: u32 },
@@ -151,7 +152,7 @@ pub enum Reason {
 }
 
 // How a run that is not refused ends.
-#[derive(Drop)]
+#[derive(Clone, Copy)]
 pub enum End {
     Intercepted(Reason),
     HostFault(Failure),
@@ -159,14 +160,14 @@ pub enum End {
 }
 
 // Whether an operation's input is refused, and by which number.
-#[derive(Drop)]
+#[derive(Clone, Copy)]
 pub enum Verdict {
     Accepted,
     Refused(u32),
 }
 
 // The answer of check.
-#[derive(Drop)]
+#[derive(Clone, Copy)]
 pub enum Checked {
     Refused(u32),
     Good,
@@ -175,7 +176,7 @@ pub enum Checked {
 
 // The answer of translate: a refusal, the host absolute address, code 32, or a guest program exception or host fault, with the table
 // that was bad.
-#[derive(Drop)]
+#[derive(Clone, Copy)]
 pub enum Translated {
     Refused(u32),
     Address(u32),
@@ -184,7 +185,7 @@ pub enum Translated {
 }
 
 // The answer of run: a refusal, or the end with the units completed.
-#[derive(Drop)]
+#[derive(Clone, Copy)]
 pub enum Answer {
     Refused(u32),
     Ended { end: End, units: u32 },

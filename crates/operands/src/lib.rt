@@ -10,7 +10,7 @@ use address::Place;
 use machine::{Failure, Guest, Psw, Registers};
 
 // Where an operand stands in host storage: count bytes from first on, and the others from second on; or why it cannot be reached.
-#[derive(Drop)]
+#[derive(Clone, Copy)]
 pub enum Operand {
     Open { first: u32, count: u32, second: u32 },
     Shut(Failure),

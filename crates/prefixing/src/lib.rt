@@ -14,7 +14,7 @@ const ADDRESSING: u64 = 5;
 
 // What addressing looks at: the guest's origin, extent and prefix in bytes, the PSW's left word as addressing looks at it, control
 // registers 0 and 1, and the host's designation.
-#[derive(Drop)]
+#[derive(Clone, Copy)]
 pub struct Space {
     pub origin: u32,
     pub extent: u32,

@@ -12,7 +12,7 @@ use machine::{Cpu, End, Guest};
 use streaks::Pace;
 
 // How a run ended, the state that it left, the units completed, and the timer's request byte and residue.
-#[derive(Drop)]
+#[derive(Clone, Copy)]
 pub struct Ended {
     pub end: End,
     pub cpu: Cpu,

@@ -13,7 +13,7 @@ ghost use Rattle.special.specs.Storing.{Stored};
 use machine::Psw;
 
 // What a unit comes to: what is wanted, with an address; or, done, the PSW's words and the CPU timer that it leaves.
-#[derive(Drop)]
+#[derive(Clone, Copy)]
 pub struct Single {
     pub want: u32,
     pub a: u32,

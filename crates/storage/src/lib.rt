@@ -74,7 +74,7 @@ fn segment_found(storage: &[u8], designation: u32, index: u32) -> u64
 }
 
 // What was found of a host segment entry, kept for the next address of the segment.
-#[derive(Drop)]
+#[derive(Clone, Copy)]
 pub struct Segment {
     pub index: u32,
     pub found: u64,

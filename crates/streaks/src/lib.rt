@@ -12,7 +12,7 @@ use machine::{Cpu, Guest, Psw, Registers};
 use turns::Stand;
 
 // What a streak leaves: the state, the host clock, the units completed, and the interval timer's residue.
-#[derive(Drop)]
+#[derive(Clone, Copy)]
 pub struct Streak {
     pub psw: Psw,
     pub timer: u64,
@@ -24,7 +24,7 @@ pub struct Streak {
 }
 
 // When to try a streak: how many units to do without one first, and how many that was before.
-#[derive(Drop)]
+#[derive(Clone, Copy)]
 pub struct Pace {
     pub wait: u32,
     pub pause: u32,

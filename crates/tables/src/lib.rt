@@ -4,7 +4,7 @@ ghost use Rattle.std.specs.Prelude.{◌≡◌, ℕ, ◌+◌, ◌*◌, ◌/◌, �
 ghost use Rattle.tables.specs.Tabling.{SegmentAt, TableOf, PageAt, Inside, Cut, word_valid};
 
 // A host page table: where it begins, and how many of its entries are in reach.
-#[derive(Drop)]
+#[derive(Clone, Copy)]
 pub struct Table {
     pub base: u32,
     pub limit: u32,

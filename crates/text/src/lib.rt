@@ -19,7 +19,7 @@ use operands::Operand;
 
 // The text of an instruction as far as it is fetched, the frames it was fetched from, and why the next halfword was not where
 // `failed`.
-#[derive(Drop)]
+#[derive(Clone, Copy)]
 pub struct Reading {
     pub failed: bool,
     pub failure: Failure,
@@ -28,14 +28,14 @@ pub struct Reading {
 }
 
 // What is read of an instruction, and what the table of opcodes says of its first halfword.
-#[derive(Drop)]
+#[derive(Clone, Copy)]
 pub struct Fetched {
     pub opcode: Opcode,
     pub reading: Reading,
 }
 
 // What addressing looks at, beside the storage and the keys.
-#[derive(Drop)]
+#[derive(Clone, Copy)]
 struct Addressing {
     designation: u32,
     guest: Guest,

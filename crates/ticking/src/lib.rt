@@ -10,7 +10,7 @@ use machine::{Cpu, End, Guest};
 
 // What it comes to: whether it completed, and how it ends the run otherwise; the state, the host clock, and the timer's request byte
 // and residue.
-#[derive(Drop)]
+#[derive(Clone, Copy)]
 pub struct Step {
     pub completed: bool,
     pub end: End,

@@ -13,7 +13,7 @@ use special::Single;
 // Where a streak stands between two turns: the PSW's words and architecture, CPU timer, host clock and the interval timer's residue; the
 // units done and those that may follow; what is wanted next, with an address; the kept place of the prefix page; and the turns in a row
 // that came to nothing.
-#[derive(Drop)]
+#[derive(Clone, Copy)]
 pub struct Stand {
     pub left: u32,
     pub right: u32,
