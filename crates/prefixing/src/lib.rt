@@ -1,5 +1,7 @@
 // What addressing looks at of a guest and its CPU, and prefixing: the host virtual address of a guest real one. Each contract equates
 // with machine's Addresses.
+#![tactic(auto)]
+
 ghost use Rattle.std.specs.Prelude.{◌≡◌, ◌<◌};
 ghost use Rattle.machine.specs.declared.Cpu.{Cpu};
 ghost use Rattle.machine.specs.Words.{bits, bit};
