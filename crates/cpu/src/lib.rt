@@ -1,5 +1,7 @@
 // Questions about the CPU and its next values, as the units ask them. Each contract equates with machine's Psw, Time, Execute and
 // Units, for every CPU, guest or unit in progress that has the parts handed in.
+#![tactic(auto)]
+
 ghost use Rattle.std.specs.Prelude.{◌≡◌, true, false, ◌&&◌, ◌||◌, ℕ, ◌+◌, ◌*◌, ◌^◌, ◌≤◌, ◌<◌, eqb};
 ghost use Rattle.machine.specs.declared.Cpu.{Cpu};
 ghost use Rattle.machine.specs.Words.{bits, bit};
