@@ -1,5 +1,7 @@
 // The guest's side of an address: guest tables, protection, and where a byte stands in host storage.
 // Each contract equates with machine's Addresses.
+#![tactic(auto)]
+
 ghost use Rattle.std.specs.Prelude.{◌≡◌, cond, ◌&&◌, List, ℕ, ◌*◌, ◌/◌, ◌%◌, ◌≤◌, ◌<◌, length};
 ghost use Rattle.machine.specs.declared.Cpu.{Cpu};
 ghost use Rattle.machine.specs.Words.{bits, bit, word_at};

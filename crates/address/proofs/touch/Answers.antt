@@ -1,0 +1,8 @@
+-- `address::touch` meets its contract.
+use mathlib.Core.Path.{refl, sym}
+use Rattle.address.proofs.touch.Goals as goal
+
+pub returns : goal.returns
+returns c =
+    let space = c.space_of-space in
+    rw (c.place_of.ensures, ← space.ensures.1) (sym (c.locate.ensures _ _ (space.ensures.2 _ refl refl refl)))
