@@ -1,5 +1,7 @@
 // ADD and SUBTRACT: the sum or difference of two words, its condition code and whether it overflows; and the value and the
 // code put into the CPU's state together. Each contract equates with machine's Execute.
+#![tactic(auto)]
+
 ghost use Rattle.std.specs.Prelude.{◌≡◌, ◌<◌};
 ghost use Rattle.machine.specs.Execute.{excess, sum_of, sum_overflows, difference_of, difference_overflows, sum_code, with_sum};
 ghost use Rattle.adder.specs.Adding.{added};

@@ -1,4 +1,6 @@
 // A PSW at another address and with another condition code.
+#![tactic(auto)]
+
 ghost use Rattle.std.specs.Prelude.{◌≡◌, ◌<◌};
 ghost use Rattle.psws.specs.Psws.{psw_at};
 

@@ -1,4 +1,6 @@
 // Sums and differences of two words as signed numbers of 64 bits, from which the condition code is worked out when it is asked for.
+#![tactic(auto)]
+
 ghost use Rattle.std.specs.Prelude.{◌≡◌, ◌+◌, ◌-◌, ◌%◌, ◌^◌, ◌<◌};
 ghost use Rattle.machine.specs.Execute.{sum_of, sum_overflows, difference_of, difference_overflows, selected};
 ghost use Rattle.sums.specs.Summing.{outside, code_in, Says};
