@@ -7,7 +7,7 @@ use mathlib.Core.Bool.{Bool, true, false, cond, not, ◌&&◌, ◌||◌}
 use mathlib.Core.List.{List}
 use lib.Dec.{eqb, leb, ltb}
 use lib.ListN.{length}
-use borrow.Author.Tests.{lt-ltb, le-leb, lt-leb, leb-true, eq-eqb, ne_eqb, eqb-true, eqb-false, not-true, not-false}
+use borrow.Author.Tests.{lt-ltb, le-leb, lt-leb, leb-true, eq-eqb, ne_eqb, eqb-true, eqb-false}
 use Rattle.machine.specs.declared.Guest.{Guest}
 use Rattle.machine.specs.Words.{bits, bit, byte_at}
 use Rattle.machine.specs.Record.{long_length, version_for, system370_mode, guest_of}
@@ -55,13 +55,13 @@ entry_parts g =
     by_mode false e false f short version six = refl
 
 -- entry of a guest whose mode and prefix are good
-pub entry-rest : (g : Guest) (long good : Bool) → long ≡ eqb g.version 2 → good ≡ mode_good g.mode long g.prefix → not good ≡ false
+pub entry_rest : (g : Guest) (long good : Bool) → long ≡ eqb g.version 2 → good ≡ mode_good g.mode long g.prefix → good ≡ true
     → entry_good g ≡ (extent_fits g && prefix_fits g)
-entry-rest g long good lengthy is so = rw (entry_parts g, ← lengthy, ← is, not-false good so)
+entry_rest g long good lengthy is so = rw (entry_parts g, ← lengthy, ← is, so)
 
 -- and of one whose are not
-pub entry_none : (g : Guest) (long good : Bool) → long ≡ eqb g.version 2 → good ≡ mode_good g.mode long g.prefix → not good ≡ true → entry_good g ≡ false
-entry_none g long good lengthy is so = rw (entry_parts g, ← lengthy, ← is, not-true good so)
+pub entry_none : (g : Guest) (long good : Bool) → long ≡ eqb g.version 2 → good ≡ mode_good g.mode long g.prefix → good ≡ false → entry_good g ≡ false
+entry_none g long good lengthy is so = rw (entry_parts g, ← lengthy, ← is, so)
 
 -- of a guest that ends above 2 GiB
 pub place_above : (g : Guest) → 32768 < g.origin + g.extent → (extent_fits g && prefix_fits g) ≡ false

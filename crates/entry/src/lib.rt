@@ -1,4 +1,6 @@
 // Entry: whether a guest is let through, by its mode and its place in the host's storage. Each contract equates with machine's Entry.
+#![tactic(auto)]
+
 ghost use Rattle.std.specs.Prelude.{◌≡◌, ◌&&◌, eqb};
 ghost use Rattle.machine.specs.Entry.{extent_fits, prefix_fits, entry_good};
 ghost use Rattle.entry.specs.Modes.{xa_mode, mode_good};
