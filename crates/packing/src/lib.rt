@@ -1,5 +1,7 @@
 // An answer packed into a number, and what stands at the caller's place afterwards; the answers of run. Each contract equates with
 // specs/Packing.
+#![tactic(auto)]
+
 ghost use Rattle.std.specs.Prelude.{◌≡◌, ◌+◌, ◌*◌, ◌%◌, ◌<◌};
 ghost use Rattle.machine.specs.Answers.{reason_code, end_address, stage_number};
 ghost use Rattle.machine.specs.Sought.{nowhere};
