@@ -1,5 +1,7 @@
 // The verdicts on the record, and on the whole input of an operation, in the order of the refusals. Each contract equates with
 // machine's Refusals.
+#![tactic(auto)]
+
 ghost use Rattle.std.specs.Prelude.{◌≡◌, length};
 ghost use Rattle.machine.specs.Record.{GoodLength};
 ghost use Rattle.machine.specs.Refusals.{check_verdict, translate_verdict, run_verdict};
