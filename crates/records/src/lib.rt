@@ -1,4 +1,6 @@
 // The record, of 200 bytes or 208: its fields read and written. Each contract equates with machine's Record and Answers.
+#![tactic(auto)]
+
 ghost use Rattle.std.specs.Prelude.{◌≡◌, true, false, cond, ◌+◌, ◌≤◌, ◌<◌, length, get_or, set};
 ghost use Rattle.std.proofs.lemmas.List.Edits.{sets};
 ghost use Rattle.machine.specs.Words.{word_at, words_at, double_at};
