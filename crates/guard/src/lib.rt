@@ -1,4 +1,6 @@
 // The frames that decide a translation, named in a guard: while storage stays alike in them, the translation stays what it is.
+#![tactic(auto)]
+
 ghost use Rattle.std.specs.Prelude.{◌≡◌, Bool, List, ℕ, ◌*◌, ◌%◌, ◌<◌, length, set};
 ghost use Rattle.machine.specs.declared.Cpu.{Cpu};
 ghost use Rattle.machine.specs.Failures.{walk_exception};

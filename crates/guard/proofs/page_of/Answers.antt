@@ -1,0 +1,12 @@
+-- `guard::page_of` meets its contract.
+use Rattle.machine.proofs.Tests.{tests}
+use Rattle.address.specs.Locating.{page_in}
+use Rattle.guard.proofs.page_of.Goals as goal
+
+pub returns-then-w-lt-STOPPED : goal.returns-then-w-lt-STOPPED
+unfolding page_in
+returns-then-w-lt-STOPPED c = search tests
+
+pub returns : goal.returns
+unfolding page_in
+returns c = rw c.failure_of.ensures (search tests)
