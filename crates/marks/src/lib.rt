@@ -1,4 +1,6 @@
 // The marks of a completed unit on the keys of frames: fetched from or stored into, key bit 5; stored into, key bit 6.
+#![tactic(auto)]
+
 ghost use Rattle.std.specs.Prelude.{◌≡◌, cond, ◌/◌, ◌<◌, length};
 ghost use Rattle.machine.specs.Host.{referenced, changed};
 ghost use Rattle.marks.specs.Marks.{mark_frame, mark_operand};
