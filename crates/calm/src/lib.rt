@@ -1,5 +1,7 @@
 // How many units can be done before the list before a unit can come to anything but the instruction, and what so many units come to
 // in clock, CPU timer and residue. Each contract rests on Calming.
+#![tactic(auto)]
+
 ghost use Rattle.std.specs.Prelude.{◌≡◌, ℕ, ◌+◌, ◌*◌, ◌^◌, ◌<◌, ◌≤◌, true, false, ◌&&◌};
 ghost use Rattle.machine.specs.declared.Cpu.{Cpu};
 ghost use Rattle.machine.specs.Psw.{instruction_address, control};
