@@ -1,5 +1,7 @@
 // The stores of a completed unit, made once every access is known good. Each contract equates with what operands'
 // Opened says of an operand: `count` of its bytes stand in host storage from `first` on, the others from `second` on.
+#![tactic(auto)]
+
 ghost use Rattle.std.specs.Prelude.{◌≡◌, ◌+◌, ◌-◌, ◌≤◌, length, take, drop};
 ghost use Rattle.std.proofs.lemmas.List.Edits.{sets};
 ghost use Rattle.machine.specs.Words.{word_bytes, double_bytes};

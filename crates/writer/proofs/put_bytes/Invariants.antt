@@ -1,0 +1,14 @@
+-- `writer::put_bytes` meets its contract. The loop's invariant: the first `i` bytes are stored, and the part keeps its length.
+use Prim.Native.Nat.{◌≤◌, ◌<◌, ◌-◌}
+use native.Mathlib.Numerals.{add-one}
+use mathlib.Core.Path.{◌≡◌, refl, sym, ◌∙◌}
+use lib.ListN.{length, take}
+use lib.Seq.{take_all, take-suc, take-suc-set}
+use borrow.Author.Rules.{rules}
+use Rattle.writer.proofs.put_bytes.Given as goal
+
+abbrev pub invariant-loop-i : goal.invariant-loop-i
+invariant-loop-i l = (l.i ≤ length l.bytes) × (length l.part ≡ length l.initial.part) × (take l.i l.part ≡ take l.i l.bytes)
+
+abbrev pub decreases-loop-i : goal.decreases-loop-i
+decreases-loop-i l = length l.bytes - l.i
