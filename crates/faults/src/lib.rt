@@ -1,5 +1,7 @@
 // By which of the host's tables a host fault is: the tables are walked again for its address. Each contract equates with machine's
 // Sought.
+#![tactic(auto)]
+
 ghost use Rattle.std.specs.Prelude.{◌≡◌};
 ghost use Rattle.machine.specs.Walk.{page_index};
 ghost use Rattle.machine.specs.Host.{host_entry};
