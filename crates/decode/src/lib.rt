@@ -1,5 +1,7 @@
 // The table of opcodes, searched by opcode. The contract of decode equates with the definition's opcode_of; the table is seen by
 // nothing else.
+#![tactic(auto)]
+
 ghost use Rattle.std.specs.Prelude.{◌≡◌, map, ◌<◌};
 ghost use Rattle.machine.specs.Opcodes.{length_of, number_of, code_of, opcode_of, opcodes};
 ghost use Rattle.decode.specs.Packing.{packed, has_row, unassigned_of};
