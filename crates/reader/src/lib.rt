@@ -1,5 +1,7 @@
 // The operand of a unit, read once every byte of it is reached: `count` of its bytes stand in host storage from `first` on, the
 // others from `second` on.
+#![tactic(auto)]
+
 ghost use Rattle.std.specs.Prelude.{◌≡◌, ◌++◌, ◌+◌, ◌-◌, ◌≤◌, length, take, drop};
 ghost use Rattle.machine.specs.Words.{word_at, double_at};
 ghost use Rattle.machine.specs.Record.{psw_of};
