@@ -1,5 +1,7 @@
 // A host segment's pages by its entry: where the entry stands, and the page table that it names, with how many of its entries are in
 // reach. What is found serves every page of the segment. Each contract equates with the tests of desk's Reach.
+#![tactic(auto)]
+
 ghost use Rattle.std.specs.Prelude.{◌≡◌, ℕ, ◌+◌, ◌*◌, ◌/◌, ◌≤◌, ◌<◌, ltb, length};
 ghost use Rattle.tables.specs.Tabling.{SegmentAt, TableOf, PageAt, Inside, Cut, word_valid};
 
