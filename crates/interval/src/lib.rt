@@ -1,5 +1,7 @@
 // The interval timer of a System/370 guest: its residue, its request T, and its word at guest real 80. Each contract equates with
 // machine's Interval and Run.
+#![tactic(auto)]
+
 ghost use Rattle.std.specs.Prelude.{◌≡◌, ◌+◌, ◌*◌, ◌<◌, ◌≤◌, length};
 ghost use Rattle.std.proofs.lemmas.List.Edits.{sets};
 ghost use Rattle.machine.specs.Words.{word_at, word_bytes};
