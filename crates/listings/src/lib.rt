@@ -1,5 +1,7 @@
 // The listing: the frames of so many pages, a segment at a time. A segment entry is read once for its pages, which go by the table that
 // it names. Each contract equates with desk's Extent.
+#![tactic(auto)]
+
 ghost use Rattle.std.specs.Prelude.{◌≡◌, cond, ℕ, ◌+◌, ◌≤◌, ◌<◌, eqb, length, get_or};
 ghost use Rattle.desk.specs.Extent.{not_valid, count_below, valid_pages, listing};
 ghost use Rattle.tables.specs.Tabling.{Inside, word_valid, word_shown, entry_of, index_valid, index_shown, words_from};
