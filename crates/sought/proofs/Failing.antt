@@ -1,13 +1,13 @@
 -- Where the guest's walk ends, by the code of the exception that it makes.
 -- Assumes nothing.
-use Prim.Native.Nat.{ℕ, ◌/◌, ◌%◌, ◌^◌, ◌≤◌, ◌<◌}
+use Prim.Native.Nat.{ℕ, ◌+◌, ◌*◌, ◌/◌, ◌%◌, ◌^◌, ◌≤◌, ◌<◌}
 use native.Mathlib.Omega.{arith}
 use mathlib.Core.Path.{◌≡◌, refl, sym, ap, subst, ◌∙◌}
-use mathlib.Core.Bool.{Bool, true, false, false≢true, cond, not, ◌&&◌}
+use mathlib.Core.Bool.{Bool, true, false, false≢true, cond, ◌&&◌}
 use mathlib.Core.List.{List}
 use lib.Dec.{eqb, ltb}
 use lib.ListN.{get_or}
-use borrow.Author.Tests.{eq-eqb, ne_eqb, le-ltb, ltb-false, not-false}
+use borrow.Author.Tests.{eq-eqb, ne_eqb, le-ltb, ltb-false}
 use Rattle.machine.specs.declared.Cpu.{Cpu}
 use Rattle.machine.specs.declared.Failure.{Failure}
 use Rattle.machine.specs.declared.Guest.{Guest}
@@ -20,14 +20,15 @@ use Rattle.machine.specs.Words.{bit}
 use Rattle.machine.specs.Entry.{extent_bytes}
 use Rattle.machine.specs.Psw.{dat_on, control}
 use Rattle.machine.specs.Failures.{addressing, protection, segment_translation, page_translation, translation_specification, host_fault, exception_of, walk_exception}
-use Rattle.machine.specs.Walk.{segment_index, page_index, segment_entry_at, past_segment_table, segment_invalid, segment_malformed, page_entry_at, past_page_table, page_invalid, page_malformed}
+use Rattle.machine.specs.Walk.{frame_of, page_protected, segment_index, page_index, segment_entry_at, past_segment_table, segment_invalid, segment_malformed, page_entry_at, past_page_table, page_invalid, page_malformed}
 use Rattle.machine.specs.Host.{Host, Cell, host, host_virtual, in_frame, host_page, backing, cell_of, view}
 use Rattle.machine.specs.Addresses.{prefixed, entry_of, guest_entry, format_good, low_protected, real_page}
 use Rattle.machine.specs.Sought.{Way, leads, stops, unread, segment_table, page_table, nowhere, way_of_page, way_of_segment, way, found_by, guest_sought_by, guest_sought, host_sought, fault_sought, exception_sought, sought}
 use Rattle.machine.specs.WhichTable.{Went, past_segments, lacks_segment, bad_segment, past_pages, lacks_page, bad_page, good_page}
 use Rattle.machine.proofs.Ways.{walk_by_way, went}
 use Rattle.storage.proofs.Faults.{OwnWalk, own_host-page}
-use Rattle.address.specs.Touching.{settled, touched, touch_of}
+use Rattle.machine.specs.Sizes.{page_bytes}
+use Rattle.address.specs.Touching.{guest_protects, settled, touched, touch_of}
 use Rattle.sought.specs.Failing.{ReadAs, ExceptsBy, Excepts}
 use Rattle.address.specs.Locating.{failure_in, place_in}
 use Rattle.address.specs.declared.Place.TheVariants.{At, Denied}
@@ -192,7 +193,9 @@ access_excepts g d s k c store a f denied guest apart on good = by_low (store &&
     by_way (unread table x) own e =
         let same : x ≡ f = cc in
         (ap (λ (y : Failure). y.host) same ∙ guest, sym (ap (λ (y : Failure). y.code) same) ∙ own (ap (λ (y : Failure). y.host) same ∙ guest))
-    by_way (leads at word) own e = by_host_lem _ _ _ refl e
+    by_way (leads at word) own e =
+        let absolute = prefixed g (frame_of word * page_bytes + a % page_bytes) in
+        by_host_lem (guest_protects c store (page_protected word)) absolute (backing g h absolute) refl e
 
     by_low : (b : Bool) → cond b (Denied (exception_of protection)) (touched g h c store a (real_page g (view g h) c a)) ≡ Denied f
         → ExceptsBy (way read (control c 1) a) f.code
@@ -203,8 +206,8 @@ access_excepts g d s k c store a f denied guest apart on good = by_low (store &&
 
 -- the guest's walk with DAT on and the format good
 
-pub dat_is_on : (c : Cpu) (left : ℕ) (on : Bool) → bit 32 5 left ≡ dat_on c → on ≡ bit 32 5 left → not on ≡ false → dat_on c ≡ true
-dat_is_on c left on sees is so = sym sees ∙ sym is ∙ not-false on so
+pub dat_is_on : (c : Cpu) (left : ℕ) (on : Bool) → bit 32 5 left ≡ dat_on c → on ≡ bit 32 5 left → on ≡ true → dat_on c ≡ true
+dat_is_on c left on sees is so = sym sees ∙ sym is ∙ so
 
 pub format-good : (c : Cpu) (cr0 : ℕ) → cr0 ≡ control c 0 → cr0 / 524288 % 32 ≡ 22 → format_good c ≡ true
 unfolding format_good

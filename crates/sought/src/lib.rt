@@ -1,4 +1,6 @@
 // By which table an access fails: the tables are walked again where a lookup has failed. Each contract equates with machine's Sought.
+#![tactic(auto)]
+
 ghost use Rattle.std.specs.Prelude.{◌≡◌, Bool, List, ℕ, ◌%◌, ◌≤◌};
 ghost use Rattle.machine.specs.declared.Cpu.{Cpu};
 ghost use Rattle.machine.specs.declared.Guest.{Guest};
