@@ -1,6 +1,8 @@
 // The lowest page that is not valid, a segment at a time: a segment entry is read once for its pages, and a page entry once, up to the
 // first that says no valid page. Pages out of reach of their table need no entry. Each contract equates with the tests of desk's Reach,
 // the last with Unbacked.
+#![tactic(auto)]
+
 ghost use Rattle.std.specs.Prelude.{◌≡◌, ◌+◌, ◌≤◌, ◌<◌, length};
 ghost use Rattle.machine.specs.Words.{word_at};
 ghost use Rattle.desk.specs.Reach.{page_valid};
