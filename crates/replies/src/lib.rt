@@ -1,5 +1,7 @@
 // The answers of the page desk and to the question for the first unbacked page packed into a number, and what stands at the caller's
 // place after the question. Each contract equates with specs/Replying.
+#![tactic(auto)]
+
 ghost use Rattle.std.specs.Prelude.{◌≡◌};
 ghost use Rattle.replies.specs.Replying.{packed_call, packed_listing, packed_found, place_after_found};
 
