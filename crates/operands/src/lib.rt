@@ -1,4 +1,6 @@
 // An operand of n bytes: where it stands in host storage, on one page or on two, or why it cannot be reached.
+#![tactic(auto)]
+
 ghost use Rattle.std.specs.Prelude.{◌≡◌, ◌≤◌, ◌<◌, length};
 ghost use Rattle.machine.specs.Refusals.{frames_of};
 ghost use Rattle.machine.specs.Host.{host};
