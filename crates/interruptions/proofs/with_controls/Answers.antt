@@ -1,20 +1,15 @@
 -- `interruptions::with_controls` meets its contract.
--- Assumes nothing.
 use mathlib.Core.Path.{◌≡◌, refl}
 use lib.ListN.{length}
 use borrow.Author.Rules.{rules}
 use Rattle.machine.specs.Psw.{with_psw}
 use Rattle.interruptions.specs.declared.Event.TheVariants as event
 use Rattle.interruptions.proofs.Leaving.{none_set}
-use Rattle.interruptions.proofs.with_controls.Statement.{statement}
-use Rattle.interruptions.proofs.with_controls.Tie as tie
+use Rattle.interruptions.proofs.with_controls.Goals as goal
 
-returns : tie.Need-returns
+pub returns : goal.returns
 unfolding with_psw
 returns c =
     let a = c.args in
     let sixteen : length a.cpu.general.words ≡ 16 = search rules in
     (refl, none_set a.cpu event.Completed a.psw a.cpu.timer a.control sixteen)
-
-pub with-controls-spec : {M : Type 1} → statement M
-with-controls-spec = tie.close (tie.spec returns)

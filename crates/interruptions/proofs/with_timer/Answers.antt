@@ -1,20 +1,15 @@
 -- `interruptions::with_timer` meets its contract.
--- Assumes nothing.
 use mathlib.Core.Path.{◌≡◌, refl}
 use lib.ListN.{length}
 use borrow.Author.Rules.{rules}
 use Rattle.machine.specs.Psw.{with_psw, with_timer}
 use Rattle.interruptions.specs.declared.Event.TheVariants as event
 use Rattle.interruptions.proofs.Leaving.{none_set}
-use Rattle.interruptions.proofs.with_timer.Statement.{statement}
-use Rattle.interruptions.proofs.with_timer.Tie as tie
+use Rattle.interruptions.proofs.with_timer.Goals as goal
 
-returns : tie.Need-returns
+pub returns : goal.returns
 unfolding with_psw with_timer
 returns c =
-    let a = c.before.args in
+    let a = c.args in
     let sixteen : length a.cpu.general.words ≡ 16 = search rules in
     (refl, none_set a.cpu event.Completed a.psw a.timer a.cpu.control sixteen)
-
-pub with-timer-spec : {M : Type 1} → statement M
-with-timer-spec = tie.close (tie.spec returns)
