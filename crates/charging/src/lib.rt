@@ -1,4 +1,6 @@
 // What follows a unit: how it ended, the state that it left, its charge, and the interval timer's update.
+#![tactic(auto)]
+
 ghost use Rattle.std.specs.Prelude.{◌≡◌, true, false, cond, ◌&&◌, ◌≤◌, ◌<◌, set};
 ghost use Rattle.machine.specs.Refusals.{most_time};
 ghost use Rattle.machine.specs.Interval.{active, period, residue_after, without_t};

@@ -1,5 +1,4 @@
 -- `charging::charged` meets its contract.
--- Assumes nothing.
 use borrow.Author.Rules.{rules}
 use mathlib.Core.Path.{refl}
 use lib.ListN.{get_or}
@@ -7,17 +6,13 @@ use mir.Syntax.{w32}
 use mir.Val.{Fits}
 use Rattle.machine.specs.Psw.{with_timer}
 use Rattle.machine.specs.Time.{charged}
-use Rattle.charging.proofs.charged.Statement.{statement}
-use Rattle.charging.proofs.charged.Tie as tie
+use Rattle.charging.proofs.charged.Goals as goal
 
-timer-after-requires : tie.Need-timer-after-requires
-timer-after-requires c κs = search rules
-
-returns : tie.Need-returns
+pub returns : goal.returns
 unfolding charged with_timer
 returns c =
-    let a = c.before.args in (
-      rw c.timer-after.ensures refl,
+    let a = c.args in (
+      rw c.timer_after.ensures refl,
       record {
         left = search rules;
         right = search rules;
@@ -26,6 +21,3 @@ returns c =
         general = record { long = search rules; small = λ i. let fits : Fits w32 (get_or a.cpu.general.words i 0) = search rules in fits.fits };
       },
     )
-
-pub charged-spec : {M : Type 1} → statement M
-charged-spec = tie.close (tie.spec timer-after-requires returns)
