@@ -1,5 +1,7 @@
 // The marks on the frames that valid pages name, and whether an entry lies in a marked frame, a segment at a time. A segment entry is
 // read once for its pages, which go by the table that it names. Each contract goes by the tests of desk's Reach and Extent.
+#![tactic(auto)]
+
 ghost use Rattle.std.specs.Prelude.{◌≡◌, cond, ℕ, ◌+◌, ◌*◌, ◌/◌, ◌≤◌, ◌<◌, ltb, length, get_or, set};
 ghost use Rattle.machine.specs.Walk.{frame_of};
 ghost use Rattle.tables.specs.Tabling.{word_names};
