@@ -1,5 +1,7 @@
 // The answers of check and translate packed into a number, and what stands at the caller's place after a translation. Each contract
 // equates with specs/Inspecting.
+#![tactic(auto)]
+
 ghost use Rattle.std.specs.Prelude.{◌≡◌};
 ghost use Rattle.inspections.specs.Inspecting.{packed_check, packed_failure, packed_translation, place_after};
 
