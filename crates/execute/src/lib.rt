@@ -1,4 +1,6 @@
 // What the instructions share: exceptions put into effect, and operands that are reached.
+#![tactic(auto)]
+
 ghost use Rattle.std.specs.Prelude.{◌≡◌, ℕ, ◌/◌, ◌≤◌, ◌<◌, false, ◌&&◌, eqb, length};
 ghost use Rattle.machine.specs.Psw.{wrap, with_psw};
 ghost use Rattle.machine.specs.Words.{bit};
