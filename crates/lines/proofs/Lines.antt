@@ -1,27 +1,14 @@
--- Laws of the line: what stands up to the end of a text put in place, and numbers in decimal.
+-- Laws of the line: numbers in decimal.
 -- Assumes nothing.
-use Prim.Native.Nat.{ℕ, zero, suc, ◌+◌, ◌-◌, ◌/◌, ◌%◌, ◌^◌, ◌≤◌, ◌<◌}
+use Prim.Native.Nat.{ℕ, zero, suc, ◌-◌, ◌/◌, ◌%◌, ◌^◌, ◌≤◌, ◌<◌}
 use native.Mathlib.Nat.{mod-eq_of_lt, one-le-pow, pow-le-pow_right, pow-suc}
-use native.Mathlib.Numerals.{add-one}
 use native.Mathlib.Omega.{arith}
-use mathlib.Core.Path.{◌≡◌, refl, ap, sym, subst, ◌∙◌}
+use mathlib.Core.Path.{◌≡◌, refl, sym, subst}
 use mathlib.Core.Bool.{Bool, true, false}
-use mathlib.Core.List.{List, [], ◌∷◌, ◌++◌, append_assoc}
 use lib.Dec.{leb}
-use lib.ListN.{length, take, set, length-append}
-use lib.Seq.{length-take-le, take-length, take_at, take-suc-set}
 use borrow.Author.Tests.{leb-true, leb-false, lt-ltb, le-ltb}
 use Rattle.io.specs.Digits.{hex_digit_ascii, last_digits, IsDigitCount}
 use Rattle.lines.specs.Line.{digit, decimal_in}
-
-pub byte_at-end : (line : List ℕ) (at byte : ℕ) → at < length line → take (at + 1) (set line at byte) ≡ take at line ++ byte ∷ []
-byte_at-end line at byte within = rw add-one (take-suc-set line at byte within)
-
-pub text_at_end : (line text rest after : List ℕ) (at : ℕ) → at ≤ length line
-    → take (at + length text) (take at line ++ ((take (length text) text ++ rest) ++ after)) ≡ take at line ++ text
-text_at_end line text rest after at within =
-    rw (take-length, append_assoc, ← append_assoc)
-    (take_at (take at line ++ text) (rest ++ after) (at + length text) (length-append (take at line) text ∙ ap (λ n. n + length text) (length-take-le at line within)))
 
 glyph_of_digit : (d : ℕ) → d < 10 → hex_digit_ascii d ≡ digit d
 glyph_of_digit d small = rw (lt-ltb d 10 small)

@@ -1,4 +1,6 @@
 // The line that a packed answer of run prints. Each contract equates with the definitions of specs/Line.
+#![tactic(auto)]
+
 ghost use Rattle.std.specs.Prelude.{◌≡◌, ◌+◌, ◌≤◌, ◌<◌, ◌++◌, ◌∷◌, [], length, take};
 ghost use Rattle.io.specs.Counts.{IsPrefixLen};
 ghost use Rattle.lines.specs.Line.{decimal, line_bytes, refusal_line, end_line, packed_line};
@@ -28,7 +30,7 @@ fn put_text(line: &mut [u8], at: usize, text: &[u8])
     requires { at + length text.now ≤ length line.old }
     ensures { take (at + length text.now) line.new ≡ take at line.old ++ text.now }
 {
-    bytes::copy(text, &mut line[at..]);
+    line[at..at + text.len()].copy_from_slice(text);
 }
 
 // A number of a line.
