@@ -23,7 +23,7 @@ use Rattle.machine.specs.Interruptions.{exception}
 use Rattle.machine.specs.Execute.{next, operand_address, intercept_instruction, execute}
 use Rattle.machine.specs.Units.{intercepts, misaligned, decoded, started}
 use Rattle.cpu.specs.declared.Before.{Before}
-use Rattle.cpu.specs.declared.Before.TheVariants.{Ends, Malformed, Instruction}
+use Rattle.cpu.specs.declared.Before.TheVariants.{Ends, Malformed}
 use Rattle.cpu.specs.Before.{unit_after}
 use Rattle.text.specs.declared.Reading.{Reading}
 use Rattle.text.specs.Fetching.{FetchedAs}

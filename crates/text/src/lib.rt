@@ -1,5 +1,7 @@
 // The fetch of an instruction's text: up to three halfwords, which stand on one page or two, the first of which is looked up in the
 // table of opcodes. Each contract equates with machine's Units.
+#![tactic(auto)]
+
 ghost use Rattle.std.specs.Prelude.{◌≡◌, false, ℕ, ◌+◌, ◌%◌, ◌≤◌, ◌<◌, length};
 ghost use Rattle.machine.specs.declared.Cpu.{Cpu};
 ghost use Rattle.machine.specs.Refusals.{frames_of};
@@ -62,7 +64,7 @@ fn whole(text: Text, frames: Frames) -> Reading
 }
 
 // The text without its next halfword, which cannot be read.
-fn cut_short_lem(failure: Failure, text: Text, frames: Frames) -> Reading
+fn cut_short(failure: Failure, text: Text, frames: Frames) -> Reading
     ensures { result ≡ cut_short failure text frames }
 {
     Reading {
@@ -94,7 +96,7 @@ fn unfetched(f: Failure) -> Fetched
         first: 0,
         second: 0,
     };
-    let reading = cut_short_lem(f, text, frames);
+    let reading = cut_short(f, text, frames);
     Fetched { opcode, reading }
 }
 
@@ -161,7 +163,7 @@ fn third_page(
     ensures usable { Usable keys.now result }
 {
     match operand {
-        Operand::Shut(failure) => cut_short_lem(failure, text, frames),
+        Operand::Shut(failure) => cut_short(failure, text, frames),
         Operand::Open {
             first: place,
             count: _,
@@ -221,7 +223,7 @@ fn second_page(
     ensures usable { Usable keys.now result }
 {
     match operand {
-        Operand::Shut(f) => cut_short_lem(f, text, frames),
+        Operand::Shut(f) => cut_short(f, text, frames),
         Operand::Open {
             first: place,
             count: _,
