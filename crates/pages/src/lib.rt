@@ -1,5 +1,7 @@
 // The table of kept blocks: a block is entered, and those that it shuts out are dropped. A guard names the frames that decide the
 // translations.
+#![tactic(auto)]
+
 ghost use Rattle.std.specs.Prelude.{◌≡◌, true, ◌≤◌, ◌<◌, length};
 ghost use Rattle.machine.specs.Refusals.{frames_of};
 ghost use Rattle.machine.specs.Host.{host};
