@@ -1,4 +1,6 @@
 // Whether an entry serves twice: as another page's, or as a segment's, among the pages of an extent, a segment at a time.
+#![tactic(auto)]
+
 ghost use Rattle.std.specs.Prelude.{◌≡◌, true, ◌+◌, ◌*◌, ◌/◌, ◌≤◌, ◌<◌};
 ghost use Rattle.machine.specs.Frames.{page_place};
 ghost use Rattle.desk.specs.Reach.{page_reached};
