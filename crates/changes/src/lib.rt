@@ -1,5 +1,7 @@
 // What a change of a page's entry comes to: the entry, the frame that the page names and the number of valid pages after it, and whether
 // the page's state allows it. Each contract equates with desk's definition.
+#![tactic(auto)]
+
 ghost use Rattle.std.specs.Prelude.{◌≡◌, ℕ, List};
 ghost use Rattle.machine.specs.Refusals.{frames_of};
 ghost use Rattle.refusals.specs.Parts.{first_refusal};
