@@ -1,5 +1,7 @@
 // The instructions that fetch an operand: LOAD, LOAD PSW, LOAD CONTROL and SET CPU TIMER. Each contract says that the code does
 // what machine's Execute defines for every unit in progress that stands so.
+#![tactic(auto)]
+
 ghost use Rattle.std.specs.Prelude.{◌≡◌, ◌++◌, ℕ, ◌+◌, ◌-◌, ◌*◌, ◌≤◌, ◌<◌, length, take, drop};
 ghost use Rattle.machine.specs.Words.{words_at};
 ghost use Rattle.machine.specs.Host.{host};

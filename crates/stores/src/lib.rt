@@ -1,5 +1,7 @@
 // The instructions that store an operand: STORE, STORE CONTROL, STORE CLOCK and STORE CPU TIMER. Each contract says that the code
 // does what machine's Execute defines for every unit in progress that stands so.
+#![tactic(auto)]
+
 ghost use Rattle.std.specs.Prelude.{◌≡◌, ℕ, ◌+◌, ◌-◌, ◌*◌, ◌≤◌, ◌<◌, length, take, drop};
 ghost use Rattle.std.proofs.lemmas.List.Edits.{sets};
 ghost use Rattle.machine.specs.declared.Cpu.{Cpu};

@@ -1,0 +1,19 @@
+-- `stores::put_controls` meets its contract. The loop's invariant: with the registers that are left stored behind the first `k`, all
+use Prim.Native.Nat.{◌-◌, ◌*◌, ◌≤◌, ◌<◌}
+use native.Mathlib.Omega.{arith}
+use mathlib.Core.Path.{◌≡◌, refl, ap, sym, ◌∙◌}
+use lib.ListN.{length, get_or}
+use lib.Seq.{sets}
+use borrow.Author.Rules.{rules}
+use Rattle.machine.specs.declared.Cpu.{Cpu}
+use Rattle.machine.specs.Words.{words_bytes}
+use Rattle.machine.specs.Execute.{controls_from}
+use Rattle.stores.proofs.Controls.{one_control_more}
+use Rattle.stores.proofs.put_controls.Given as goal
+
+abbrev pub invariant-loop-k : goal.invariant-loop-k
+invariant-loop-k l = (l.at < 16) × (l.k ≤ l.n) × (length l.bytes ≡ length l.initial.bytes)
+    × ((c : Cpu) → c.control.words ≡ l.words → sets l.bytes (4 * l.k) (words_bytes (controls_from c l.at (l.n - l.k))) ≡ sets l.initial.bytes 0 (words_bytes (controls_from c l.i l.n)))
+
+abbrev pub decreases-loop-k : goal.decreases-loop-k
+decreases-loop-k l = l.n - l.k
