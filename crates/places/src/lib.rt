@@ -1,4 +1,6 @@
 // Places on kept blocks: where the bytes at a logical address stand in storage, by the table of kept blocks.
+#![tactic(auto)]
+
 ghost use Rattle.std.specs.Prelude.{◌≡◌, ◌+◌, ◌/◌, ◌%◌, ◌<◌, ◌≤◌, slice_index};
 ghost use Rattle.blocks.specs.Keeping.{fetch_block, store_block};
 ghost use Rattle.places.specs.Placing.{Spot};
