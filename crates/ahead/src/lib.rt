@@ -1,5 +1,7 @@
 // Whether an instruction whose tests are clear will complete, told before anything is stored or marked, while the interval timer's word
 // cannot be stored into. No interruption completes then: the old PSW of each stands on the word's page.
+#![tactic(auto)]
+
 ghost use Rattle.std.specs.Prelude.{◌≡◌, not, ◌&&◌, ◌≤◌, length};
 ghost use Rattle.machine.specs.declared.Class.TheVariants.{Ar, Sr};
 ghost use Rattle.machine.specs.Refusals.{frames_of};
