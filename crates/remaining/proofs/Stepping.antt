@@ -101,8 +101,8 @@ module _ (n : Numbers) (d : List ℕ) {g : Guest} (long : length d ≡ long_leng
         ap (ticked n m) (λ i. record {
           description = again (charged c' n.time) left.cpu i;
           clock = clock_after clock n.time;
-          storage = ((λ j. stored (backing (here.guest-here n d long own c bounded architecture request residue small clock storage keys j) h) e.stores storage) ∙ sym left.bytes) i;
-          keys = ((λ j. marked_by (backing (here.guest-here n d long own c bounded architecture request residue small clock storage keys j) h) e keys) ∙ sym left.marks) i;
+          storage = ((λ j. stored (backing (here.guest_here n d long own c bounded architecture request residue small clock storage keys j) h) e.stores storage) ∙ sym left.bytes) i;
+          keys = ((λ j. marked_by (backing (here.guest_here n d long own c bounded architecture request residue small clock storage keys j) h) e keys) ∙ sym left.marks) i;
         })
     by_outcome (intercepted r c') left =
         ap (ends (end.Intercepted r))
@@ -113,7 +113,7 @@ module _ (n : Numbers) (d : List ℕ) {g : Guest} (long : length d ≡ long_leng
           storage = storage;
           keys = keys;
         }))
-        ∙ here.exit-here n d long own c bounded architecture request residue small clock storage keys u.cpu lasting r
+        ∙ here.exit_here n d long own c bounded architecture request residue small clock storage keys u.cpu lasting r
         ∙ (λ i. timed_at d u.cpu (cond (clears_t r) (without_t request) request) residue clock (sym left.bytes i) (sym left.marks i)))
     by_outcome (faulted f) left =
         ap (ends (end.HostFault f))
@@ -128,7 +128,7 @@ module _ (n : Numbers) (d : List ℕ) {g : Guest} (long : length d ≡ long_leng
     pub step-leads : {asked : Bool} → asked ≡ (active g && pending request) → LeftBy h g c (unit g clock asked (view g h) c) n.time u s k → step n m ≡ leads u.event
     unfolding step
     step-leads {asked} told left =
-        ap (step_of n m) (here.unit-here n d long own c bounded architecture request residue small clock storage keys ∙ ap (λ b. unit g clock b (view g h) c) (sym told))
+        ap (step_of n m) (here.unit_here n d long own c bounded architecture request residue small clock storage keys ∙ ap (λ b. unit g clock b (view g h) c) (sym told))
         ∙ by_outcome (unit g clock asked (view g h) c) left
         ∙ ap leads (sym left.event)
 
@@ -158,7 +158,7 @@ module _ (n : Numbers) (d : List ℕ) {g : Guest} (long : length d ≡ long_leng
       unfolding step_to
       rise_steps short =
           completes (λ e. leads e ≡ step_to d clock n.time (record { event = e; cpu = u.cpu; request = request; residue = residue_after residue n.time }) s k e)
-          (here.rises-here n d long own c bounded architecture request residue small clock storage keys u.cpu (clock_after clock n.time) s k on short)
+          (here.rises_here n d long own c bounded architecture request residue small clock storage keys u.cpu (clock_after clock n.time) s k on short)
 
       pub fall_steps : falls residue n.time ≡ true → {p : ℕ} → StandsAt n m p
           → leads u.event ≡ step_to d clock n.time
@@ -169,17 +169,17 @@ module _ (n : Numbers) (d : List ℕ) {g : Guest} (long : length d ≡ long_leng
           completes (λ e. leads e ≡ step_to d clock n.time
           (record { event = e; cpu = u.cpu; request = request_after request (word_at s p); residue = residue_after residue n.time })
           (sets s p (word_bytes (word_after (word_at s p)))) k e)
-          (here.fell-here n d long own c bounded architecture request residue small clock storage keys u.cpu (clock_after clock n.time) s k on full stands)
+          (here.fell_here n d long own c bounded architecture request residue small clock storage keys u.cpu (clock_after clock n.time) s k on full stands)
 
   -- a unit that completes, with its word out of reach
   pub fault_steps : active g ≡ true → falls residue n.time ≡ true → (f : Failure) → word_accesses n m ≡ stopped f
       → is_completed (event_of (unit g clock (active g && pending request) (view g h) c)) ≡ true → step n m ≡ ends (end.HostFault f) m
   unfolding step step_of event_of is_completed
   fault_steps on full f stop whole =
-      ap (step_of n m) (here.unit-here n d long own c bounded architecture request residue small clock storage keys)
+      ap (step_of n m) (here.unit_here n d long own c bounded architecture request residue small clock storage keys)
       ∙ by_whole (unit g clock (active g && pending request) (view g h) c) whole
     where
       by_whole : (o : Outcome) → is_completed (event_of o) ≡ true → step_of n m o ≡ ends (end.HostFault f) m
-      by_whole (completed c' e) w = here.faults-here n d long own c bounded architecture request residue small clock storage keys (after_unit n m c' e) on full f stop
+      by_whole (completed c' e) w = here.faults_here n d long own c bounded architecture request residue small clock storage keys (after_unit n m c' e) on full f stop
       by_whole (intercepted r c') w = not_both w refl
       by_whole (faulted f') w = not_both w refl
