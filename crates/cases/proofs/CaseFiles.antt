@@ -1,13 +1,12 @@
 -- Laws of well-formed case files: how long one is, how long its record is, and how many frames it has.
 -- Assumes nothing.
-use Prim.Native.Nat.{ℕ, ◌+◌, ◌-◌, ◌*◌, ◌≤◌, ◌<◌}
+use Prim.Native.Nat.{ℕ, ◌+◌, ◌*◌, ◌≤◌, ◌<◌}
 use native.Mathlib.Omega.{arith}
-use mathlib.Core.Path.{◌≡◌, refl, ap, sym, ◌∙◌}
+use mathlib.Core.Path.{◌≡◌, refl, sym, ◌∙◌}
 use mathlib.Core.Bool.{Bool, true, false, cond, ◌&&◌}
-use mathlib.Core.List.{List, ◌++◌}
+use mathlib.Core.List.{List}
 use lib.Dec.{eqb, leb}
-use lib.ListN.{length, take, drop, length-take, length-drop, get_or-eq_default}
-use lib.Seq.{take_all, take_at, take-length}
+use lib.ListN.{length, length-take, length-drop, get_or-eq_default}
 use borrow.Author.Tests.{eq-eqb, ne_eqb, eqb-true, leb-true, lt-leb}
 use Rattle.machine.specs.declared.Answer.TheVariants.{Refused}
 use Rattle.machine.specs.declared.Numbers.{Numbers}
@@ -79,35 +78,9 @@ module _ (file : List ℕ) (good : well_formed file ≡ true) where
   pub good_most : count_of file ≤ most_case_frames
   good_most = leb-true (count_of file) most_case_frames tests.3
 
-  -- the parts of a file are as long as they should be
-
+  -- the record is as long as it should be
   pub record_length_lem : length (record_of file) ≡ record_size file
   record_length_lem = simp (length-take, length-drop) (omega (arith, good_length, good_least))
-
-  pub keys_length : length (keys_of file) ≡ count_of file
-  keys_length = simp (length-take, length-drop) (omega (arith, good_length, good_least))
-
-  pub frames-length : length (storage_of file) ≡ count_of file * frame_bytes
-  frames-length = simp length-drop (omega (arith, good_length))
-
--- what copying a part to the start of an array leaves there
-
-pub copied_front : (part array whole : List ℕ) (k : ℕ) {last : List ℕ} → last ≡ take (length part) part ++ drop (length part) array → part ≡ whole
-    → length whole ≡ k → take k last ≡ whole
-copied_front part array whole k copied same long =
-    rw (copied, take-length) (take_at part (drop (length part) array) k (ap length same ∙ long) ∙ same)
-
--- the parts of a file as the code takes them
-
-pub record_taken : (file : List ℕ) (end : ℕ) → end ≡ record_at + record_size file → take (end - record_at) (drop record_at file) ≡ record_of file
-record_taken file end same = ap (λ n. take n (drop record_at file)) {x = end - record_at} {y = record_size file} (omega (arith, same))
-
-pub keys_taken : (file : List ℕ) (at end : ℕ) → at ≡ keys_at file → end ≡ at + count_of file → take (end - at) (drop at file) ≡ keys_of file
-keys_taken file at end same last =
-    ap (λ n. take n (drop at file)) {x = end - at} {y = count_of file} (omega (arith, last)) ∙ ap (λ n. take (count_of file) (drop n file)) same
-
-pub frames_taken : (file : List ℕ) (at : ℕ) → at ≡ frames_at file → take (length file - at) (drop at file) ≡ storage_of file
-frames_taken file at same = take_all (length file - at) (drop at file) (simp length-drop (omega arith)) ∙ ap (λ n. drop n file) same
 
 -- what a parser found of a well-formed file
 pub good_case : (file : List ℕ) (n : Numbers) (count : ℕ) → case_of file ≡ Good n count → (well_formed file ≡ true) × (n ≡ numbers_of file) × (count ≡ count_of file)

@@ -17,7 +17,7 @@ use Rattle.machine.specs.declared.Opcode.{Opcode}
 use Rattle.machine.specs.declared.Reason.{Reason}
 use Rattle.machine.specs.Psw.{problem_state, overflow_enabled, instruction_address}
 use Rattle.machine.specs.Failures.{operation, privileged_operation, specification, fixed_point_overflow, exception_of}
-use Rattle.machine.specs.Host.{Cell, Located, view}
+use Rattle.machine.specs.Host.{Cell, Located}
 use Rattle.machine.specs.Addresses.{Access, reached, denied, Accesses, all, stopped, and_then, accesses, when_reached}
 use Rattle.machine.specs.Opcodes.{same_class}
 use Rattle.machine.specs.Outcomes.{Effects, Outcome, completed, intercepted, faulted, Progress}

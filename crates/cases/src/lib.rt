@@ -1,5 +1,7 @@
 // Case files: the parser, and copies of a file's parts. A file is any slice. Each contract equates with the definitions of
 // specs/CaseFile.
+#![tactic(auto)]
+
 ghost use Rattle.std.specs.Prelude.{◌≡◌, true, ◌*◌, ◌≤◌, length, take};
 ghost use Rattle.cases.specs.CaseFile.{record_size, count_of, numbers_of, record_of, keys_of, storage_of, well_formed, case_of};
 
@@ -119,7 +121,7 @@ pub fn record_of(file: &[u8]) -> [u8; LONG_RECORD]
 {
     let mut part = [0; LONG_RECORD];
     let end = RECORD + record_size(file);
-    bytes::copy(&file[RECORD..end], &mut part);
+    part[..end - RECORD].copy_from_slice(&file[RECORD..end]);
     part
 }
 
@@ -132,7 +134,7 @@ pub fn keys_of(file: &[u8], count: usize) -> [u8; MOST_FRAMES]
     let mut part = [0; MOST_FRAMES];
     let at = RECORD + record_size(file) + 1;
     let end = at + count;
-    bytes::copy(&file[at..end], &mut part);
+    part[..count].copy_from_slice(&file[at..end]);
     part
 }
 
@@ -151,6 +153,6 @@ pub fn storage_of(file: &[u8], count: usize) -> [u8; MOST_BYTES]
 {
     let mut part = room();
     let at = RECORD + record_size(file) + 1 + count;
-    bytes::copy(&file[at..], &mut part);
+    part[..count * FRAME].copy_from_slice(&file[at..]);
     part
 }
