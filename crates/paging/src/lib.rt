@@ -1,5 +1,7 @@
 // The page desk: add, remove and protect one guest page, list the frames of the guest's pages, and find the first unbacked page. Each
 // contract equates answer, storage, number and workspace with desk's definition, for every input, refused input too.
+#![tactic(auto)]
+
 ghost use Rattle.std.specs.Prelude.{◌≡◌, true, List, ℕ, ◌+◌, ◌≤◌, ◌<◌, length};
 ghost use Rattle.machine.specs.Refusals.{refuse};
 ghost use Rattle.refusals.specs.Parts.{first_refusal};

@@ -1,0 +1,27 @@
+-- `paging::change_accepted` meets its contract.
+use mathlib.Core.Path.{refl, sym, ◌∙◌}
+use Rattle.desk.specs.Desk.{desk_as}
+use Rattle.paging.proofs.Accepting.{accepted-long, accepted_version, accepted-small, entered-low}
+use Rattle.paging.proofs.change_accepted.Goals as goal
+
+pub guest_of-guest-requires : goal.guest_of-guest-requires
+guest_of-guest-requires c = let (k, accepted) = c.requires in accepted-long _ _ k accepted
+
+pub entry_good-requires : goal.entry_good-requires
+entry_good-requires c = let (k, accepted) = c.requires in rw c.guest_of-guest.ensures (accepted_version _ _ k accepted)
+
+pub returns-then-not-entry_good : goal.returns-then-not-entry_good
+unfolding desk_as
+returns-then-not-entry_good c = rw (← c.guest_of-guest.ensures, ← c.entry_good.ensures, c.if-not-entry_good.true) (record { answer = refl; bytes = refl; count = refl })
+
+pub change_of-requires : goal.change_of-requires
+change_of-requires c =
+    let (k, accepted) = c.requires in
+    record {
+      low = entered-low _ (sym c.entry_good.ensures ∙ c.if-not-entry_good.false);
+      small = accepted-small _ _ k accepted;
+    }
+
+pub returns : goal.returns
+unfolding desk_as
+returns c = rw (← c.guest_of-guest.ensures, ← c.entry_good.ensures, c.if-not-entry_good.false) c.change_of.ensures
