@@ -1,4 +1,6 @@
 // The kept place of the prefix page: where interruptions store, with no walk.
+#![tactic(auto)]
+
 ghost use Rattle.std.specs.Prelude.{◌≡◌, false, List, ℕ, ◌*◌, ◌≤◌, length};
 ghost use Rattle.machine.specs.declared.Psw.{Psw};
 ghost use Rattle.machine.specs.declared.Registers.{Registers};
