@@ -1,5 +1,7 @@
 // The instructions that branch: BRANCH ON CONDITION. Each contract says that the code does what machine's Execute defines for every unit
 // in progress that stands so.
+#![tactic(auto)]
+
 ghost use Rattle.std.specs.Prelude.{◌≡◌, cond, not, ◌&&◌, ℕ, ◌≤◌, eqb};
 ghost use Rattle.machine.specs.Words.{bits};
 ghost use Rattle.machine.specs.Psw.{condition_code, with_address};
