@@ -1,5 +1,7 @@
 // The operations that change nothing: check a record, translate one guest address. Each contract equates the answer with machine's
 // Operations: check for every input, refused input too; translate once the input is accepted. And by which table a run's answer is.
+#![tactic(auto)]
+
 ghost use Rattle.std.specs.Prelude.{◌≡◌, Bool, true, List, ℕ, ◌≤◌};
 ghost use Rattle.machine.specs.Record.{guest_of};
 ghost use Rattle.machine.specs.Refusals.{check_verdict, translate_verdict};
