@@ -1,5 +1,7 @@
 // The instructions that have no operand in storage and do not branch: LOAD (LR), ADD, SUBTRACT, SUPERVISOR CALL and LOAD ADDRESS. Each
 // contract says that the code does what machine's Execute defines for every unit in progress that stands so.
+#![tactic(auto)]
+
 ghost use Rattle.std.specs.Prelude.{◌≡◌, Bool, ◌&&◌, ℕ, ◌≤◌};
 ghost use Rattle.machine.specs.Psw.{overflow_enabled, with_condition_code};
 ghost use Rattle.machine.specs.Host.{Host, host};
