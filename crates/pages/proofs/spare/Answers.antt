@@ -1,4 +1,5 @@
 -- `pages::spare` meets its contract. The loop's invariant: some blocks are dropped, and of the entries passed none lies in a frame that
+-- the guard names.
 use Prim.Native.Nat.{◌+◌, ◌<◌}
 use native.Mathlib.Omega.{arith}
 use mathlib.Core.Path.{◌∙◌}
