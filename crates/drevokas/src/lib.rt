@@ -1,7 +1,7 @@
-// The public operations, for C: check a record, translate one guest address, run; add, remove and protect a guest page, list the pages,
-// find the first unbacked one. No operation has a requires; each contract equates the answer, and all that the operation may write, with
-// the definition of machine's Operations or of desk's Desk and Unbacked, for every input, refused input too, packed as packing's
-// specs/Packing says.
+// The public operations: check a record, translate one guest address, run; add, remove and protect a guest page, list the pages, find the
+// first unbacked one. No operation has a requires; each contract equates the answer, and all that the operation may write, with the
+// definition of machine's Operations or of desk's Desk and Unbacked, for every input, refused input too, packed as packing's specs/Packing
+// says. Crate drevokas_c exports them to C.
 ghost use Rattle.std.specs.Prelude.{◌≡◌};
 ghost use Rattle.machine.specs.Refusals.{run_verdict};
 ghost use Rattle.machine.specs.Host.{host};
@@ -23,16 +23,14 @@ const LONG_RECORD: usize = 208;
 const WRONG_LENGTH: u32 = 1;
 
 // Checks a record: good, code 32 or refused.
-#[unsafe(no_mangle)]
-pub extern "C" fn drevokas_check(r: &[u8]) -> u64
+pub fn drevokas_check(r: &[u8]) -> u64
     ensures { result ≡ packed_check (check r.now) }
 {
     inspections::pack_check(inspect::check(r))
 }
 
 // Translates one guest address: the host absolute address, code 32, a guest program exception, a host fault, or refused.
-#[unsafe(no_mangle)]
-pub extern "C" fn drevokas_translate(
+pub fn drevokas_translate(
     r: &[u8],
     storage: &[u8],
     keys: &[u8],
@@ -110,8 +108,7 @@ fn run_as(r: &mut [u8], storage: &mut [u8], keys: &mut [u8], n: Numbers, v: Verd
 }
 
 // Runs a guest for at most budget units: intercepted, a host fault, budget used, or refused.
-#[unsafe(no_mangle)]
-pub extern "C" fn drevokas_run(
+pub fn drevokas_run(
     r: &mut [u8],
     storage: &mut [u8],
     keys: &mut [u8],
@@ -138,8 +135,7 @@ pub extern "C" fn drevokas_run(
 }
 
 // Adds a guest page with a frame: done, code 32, or refused. The number of valid pages is one more where it is done.
-#[unsafe(no_mangle)]
-pub extern "C" fn drevokas_add_page(
+pub fn drevokas_add_page(
     r: &[u8],
     storage: &mut [u8],
     keys: &[u8],
@@ -162,8 +158,7 @@ pub extern "C" fn drevokas_add_page(
 }
 
 // Removes a guest page: done, code 32, or refused. The number of valid pages is one less where it is done.
-#[unsafe(no_mangle)]
-pub extern "C" fn drevokas_remove_page(
+pub fn drevokas_remove_page(
     r: &[u8],
     storage: &mut [u8],
     keys: &[u8],
@@ -177,8 +172,7 @@ pub extern "C" fn drevokas_remove_page(
 }
 
 // Protects a guest page: done, code 32, or refused. The number of valid pages stays.
-#[unsafe(no_mangle)]
-pub extern "C" fn drevokas_protect_page(
+pub fn drevokas_protect_page(
     r: &[u8],
     storage: &mut [u8],
     keys: &[u8],
@@ -192,8 +186,7 @@ pub extern "C" fn drevokas_protect_page(
 }
 
 // Lists the frames of the guest's pages, a word each: done with the number of valid pages, code 32, or refused.
-#[unsafe(no_mangle)]
-pub extern "C" fn drevokas_list_pages(
+pub fn drevokas_list_pages(
     r: &[u8],
     storage: &[u8],
     keys: &[u8],
@@ -206,8 +199,7 @@ pub extern "C" fn drevokas_list_pages(
 }
 
 // Finds the lowest guest page from one up to another that is not valid: its number, none, code 32, or refused.
-#[unsafe(no_mangle)]
-pub extern "C" fn drevokas_first_unbacked(
+pub fn drevokas_first_unbacked(
     r: &[u8],
     storage: &[u8],
     keys: &[u8],
