@@ -1,6 +1,8 @@
 // The program: reads one case file from standard input and prints the one line that it asks for. The run is drevokas_run, on copies of
 // the file's parts, and the line is proved to be that of the definition's answer. A file is at most 33,008 bytes; of a
 // longer input one byte more is read, and so it is malformed.
+#![tactic(auto)]
+
 ghost use Rattle.std.specs.Prelude.{◌≡◌, ◌≤◌, length, take};
 ghost use Rattle.io.specs.Counts.{IsPrefixLen};
 ghost use Rattle.packing.specs.Packing.{packed_answer};
@@ -8,8 +10,9 @@ ghost use Rattle.lines.specs.Line.{line_bytes, line_of};
 ghost use Rattle.cases.specs.CaseFile.{case_of, answer_of, table_of};
 
 use cases::Case;
-use libc::{STDIN_FILENO, STDOUT_FILENO};
 use machine::Numbers;
+use std::io;
+use std::io::{Read, Write};
 
 const ROOM: usize = 33009;
 
@@ -18,10 +21,10 @@ const FRAME: usize = 4096;
 // Refusal 9, packed.
 const MALFORMED: u64 = 2533274790395904;
 
-// The bytes that were read, and whether a read failed.
-#[derive(Clone, Copy)]
+// How reading ended, and how many bytes were read.
+#[derive(Drop)]
 struct Input {
-    failed: bool,
+    ended: io::Result<()>,
     count: usize,
 }
 
@@ -32,26 +35,26 @@ fn room() -> [u8; ROOM]
 }
 
 // Reads until the input ends, a read fails or the file is full.
-fn read_input(file: &mut [u8]) -> Input
+fn read_input(reader: &mut impl Read, file: &mut [u8]) -> Input
     ensures { IsPrefixLen result.count file.new }
 {
     let mut count = 0;
     while count < file.len() {
-        let got = libc::read(STDIN_FILENO, &mut file[count..]);
-        if got < 0 {
-            return Input {
-                failed: true,
-                count,
-            };
+        match reader.read(&mut file[count..]) {
+            Ok(0) => {
+                break;
+            }
+            Ok(more) => count += more,
+            Err(e) => {
+                return Input {
+                    ended: Err(e),
+                    count,
+                };
+            }
         }
-        let more = io::count(got, &file[count..]);
-        if more == 0 {
-            break;
-        }
-        count += more;
     }
     Input {
-        failed: false,
+        ended: Ok(()),
         count,
     }
 }
@@ -106,21 +109,16 @@ fn case_line(file: &[u8], line: &mut [u8]) -> usize
     lines::put_line(line, run_case(file))
 }
 
-fn print_line(file: &[u8]) {
+fn print_line(writer: &mut impl Write, file: &[u8]) -> io::Result<()> {
     let mut line = [0; lines::LINE];
     let n = case_line(file, &mut line);
-    if !io::write_all(STDOUT_FILENO, &line[..n]) {
-        os::fail(b"standard output");
-    }
+    writer.write_all(&line[..n])
 }
 
-fn main() {
+// A read or a write that fails ends the program with its error.
+fn main(rt: HostRuntime) -> io::Result<()> {
     let mut file = room();
-    let input = read_input(&mut file);
-    if input.failed {
-        os::fail(b"standard input");
-        return;
-    }
-    let count = input.count;
-    print_line(&file[..count]);
+    let Input { ended, count } = read_input(&mut rt.stdin(), &mut file);
+    ended?;
+    print_line(&mut rt.stdout(), &file[..count])
 }
