@@ -1,5 +1,7 @@
 // Instructions with an operand that change more than a lap does, or take clock or CPU timer, on kept blocks: LOAD PSW, SET CPU TIMER,
 // STORE CLOCK and STORE CPU TIMER, by numbers.
+#![tactic(auto)]
+
 ghost use Rattle.std.specs.Prelude.{◌≡◌, ◌<◌};
 ghost use Rattle.machine.specs.Words.{double_bytes};
 ghost use Rattle.machine.specs.Psw.{instruction_address};
