@@ -1,0 +1,9 @@
+-- `case::case_line` meets its contract.
+use borrow.Author.Rules.{rules}
+use mathlib.Core.Path.{ap, ◌∙◌}
+use Rattle.lines.specs.Line.{packed_line}
+use Rattle.cases.proofs.Answers.{line_of_case}
+use Rattle.case.proofs.case_line.Goals as goal
+
+pub returns : goal.returns
+returns c = record { prefix_len = c.put_line.ensures.prefix_len; line_after = c.put_line.ensures.line_after ∙ ap packed_line c.run_case.ensures ∙ line_of_case _ _ }
