@@ -1,4 +1,6 @@
 // An instruction whose text is fetched: the order of its tests before its operand, and its effect, by its class.
+#![tactic(auto)]
+
 ghost use Rattle.std.specs.Prelude.{◌≡◌, ◌&&◌, ℕ, ◌≤◌, ◌<◌};
 ghost use Rattle.machine.specs.declared.Class.TheVariants.{Unassigned};
 ghost use Rattle.machine.specs.Psw.{problem_state};
