@@ -1,4 +1,6 @@
 // Interruptions on the kept place of the prefix page: SUPERVISOR CALL and program exceptions, by numbers.
+#![tactic(auto)]
+
 ghost use Rattle.std.specs.Prelude.{◌≡◌, false, ◌+◌, ◌≤◌, ◌<◌, length};
 ghost use Rattle.std.proofs.lemmas.List.Edits.{sets};
 ghost use Rattle.machine.specs.declared.Cpu.{Cpu};
