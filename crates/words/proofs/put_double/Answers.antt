@@ -1,6 +1,5 @@
 -- `words::put_double` meets its contract. Two words, stored one behind the other, are a double word.
 use Prim.Native.Nat.{◌/◌, ◌%◌, ◌^◌}
-use borrow.Author.Rules.{rules}
 use Rattle.machine.specs.Words.{word_bytes}
 use Rattle.machine.proofs.Words.{sets-append, word_bytes-mod}
 use Rattle.words.proofs.put_double.Goals as goal

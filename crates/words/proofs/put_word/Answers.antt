@@ -1,6 +1,5 @@
 -- `words::put_word` meets its contract. Two halfwords, stored one behind the other, are a word.
 use Prim.Native.Nat.{◌/◌}
-use borrow.Author.Rules.{rules}
 use Rattle.machine.specs.Words.{half_bytes}
 use Rattle.machine.proofs.Words.{sets-append}
 use Rattle.words.proofs.put_word.Goals as goal
