@@ -1,5 +1,7 @@
 // Units on kept blocks, one after the other: registers, address, condition code and storage change, and nothing else. The next
 // instruction is known by its place in storage, the condition code by the last sum.
+#![tactic(auto)]
+
 ghost use Rattle.std.specs.Prelude.{◌≡◌, ℕ, ◌+◌, ◌<◌, ◌≤◌, true, List, length, slice_index, slice_set};
 ghost use Rattle.machine.specs.Words.{half_at};
 ghost use Rattle.machine.specs.declared.Cpu.{Cpu};
