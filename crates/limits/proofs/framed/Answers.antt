@@ -1,6 +1,5 @@
 -- `limits::framed` meets its contract: storage of whole frames, one for each key, is not refused.
 use native.Mathlib.Omega.{arith}
-use borrow.Author.Rules.{rules}
 use borrow.Author.Tests.{eqb-false, not-true}
 use mathlib.Core.Bool.{false≢true}
 use Rattle.limits.proofs.Parts.{storage_framed}

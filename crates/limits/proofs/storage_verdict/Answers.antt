@@ -1,6 +1,5 @@
 -- `limits::storage_verdict` meets its contract. Each return meets refusals 3 and 4 by the tests that led to it.
 use mathlib.Core.Path.{sym}
-use borrow.Author.Rules.{rules}
 use Rattle.machine.specs.Refusals.{wrong_storage, wrong_keys}
 use Rattle.machine.proofs.Tests.{tests}
 use Rattle.limits.specs.Parts.{storage_verdict}
