@@ -1,5 +1,4 @@
 -- `cpu::address_part` meets its contract.
-use borrow.Author.Rules.{rules}
 use Rattle.machine.specs.Execute.{address_part}
 use Rattle.machine.proofs.Tests.{tests}
 use Rattle.cpu.proofs.address_part.Goals as goal

@@ -1,6 +1,5 @@
 -- `cpu::advanced` meets its contract.
 use native.Mathlib.Nat.{div-one}
-use borrow.Author.Rules.{rules}
 use Rattle.machine.specs.Psw.{advanced}
 use Rattle.cpu.proofs.advanced.Goals as goal
 

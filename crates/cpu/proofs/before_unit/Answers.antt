@@ -2,7 +2,6 @@
 use mathlib.Core.Path.{sym, ◌∙◌}
 use mathlib.Core.Bool.{and-true, and-false}
 use borrow.Author.Tests.{eq-eqb, ne_eqb}
-use borrow.Author.Rules.{rules}
 use Rattle.machine.specs.Units.{external_requested, unit}
 use Rattle.cpu.specs.Before.{last_tests, external_tests}
 use Rattle.cpu.proofs.before_unit.Goals as goal

@@ -1,6 +1,5 @@
 -- `cpu::condition_code` meets its contract.
 use mathlib.Core.Path.{sym, ◌∙◌}
-use borrow.Author.Rules.{rules}
 use Rattle.cpu.proofs.condition_code.Goals as goal
 
 pub returns-then-basic_control : goal.returns-then-basic_control

@@ -2,7 +2,6 @@
 use native.Mathlib.Nat.{div-one}
 use mathlib.Core.Path.{sym, ◌∙◌}
 use borrow.Author.Tests.{eq-eqb, ne_eqb}
-use borrow.Author.Rules.{rules}
 use Rattle.cpu.specs.Before.{external_tests}
 use Rattle.cpu.proofs.external_tests.Goals as goal
 

@@ -1,6 +1,5 @@
 -- `cpu::instruction_address` meets its contract.
 use native.Mathlib.Nat.{div-one}
-use borrow.Author.Rules.{rules}
 use Rattle.cpu.proofs.instruction_address.Goals as goal
 
 pub returns-then-psw : goal.returns-then-psw

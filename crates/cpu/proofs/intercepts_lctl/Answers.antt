@@ -1,5 +1,4 @@
 -- `cpu::intercepts_lctl` meets its contract. The loop's invariant: the registers that are left have what all of them have.
-use Prim.Native.Nat.{◌<◌}
 use native.Mathlib.Omega.{arith}
 use mathlib.Core.Path.{◌≡◌, refl}
 use borrow.Author.Rules.{rules}

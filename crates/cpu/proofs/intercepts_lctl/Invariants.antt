@@ -1,10 +1,7 @@
 -- `cpu::intercepts_lctl` meets its contract. The loop's invariant: the registers that are left have what all of them have.
 use Prim.Native.Nat.{◌<◌}
-use native.Mathlib.Omega.{arith}
-use mathlib.Core.Path.{◌≡◌, refl}
-use borrow.Author.Rules.{rules}
+use mathlib.Core.Path.{◌≡◌}
 use Rattle.machine.specs.Units.{intercepts_lctl}
-use Rattle.cpu.proofs.Lctl.{lctl_first}
 use Rattle.cpu.proofs.intercepts_lctl.Given as goal
 
 abbrev pub invariant-loop-left : goal.invariant-loop-left

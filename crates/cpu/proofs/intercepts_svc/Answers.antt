@@ -1,5 +1,4 @@
 -- `cpu::intercepts_svc` meets its contract.
-use borrow.Author.Rules.{rules}
 use Rattle.machine.specs.Units.{intercepts_svc}
 use Rattle.cpu.proofs.intercepts_svc.Goals as goal
 

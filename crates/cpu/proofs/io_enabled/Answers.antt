@@ -1,6 +1,5 @@
 -- `cpu::io_enabled` meets its contract.
 use mathlib.Core.Path.{sym, ◌∙◌}
-use borrow.Author.Rules.{rules}
 use Rattle.cpu.proofs.io_enabled.Goals as goal
 
 pub returns-then-basic_control : goal.returns-then-basic_control

@@ -1,5 +1,4 @@
 -- `cpu::io_request` meets its contract.
-use borrow.Author.Rules.{rules}
 use Rattle.cpu.proofs.io_request.Goals as goal
 
 pub returns : goal.returns

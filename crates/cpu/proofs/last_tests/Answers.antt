@@ -1,5 +1,4 @@
 use mathlib.Core.Path.{sym, ◌∙◌}
-use borrow.Author.Rules.{rules}
 use Rattle.cpu.specs.Before.{last_tests}
 use Rattle.cpu.proofs.last_tests.Goals as goal
 

@@ -1,6 +1,5 @@
 -- `cpu::malformed_370` meets its contract.
 use mathlib.Core.Path.{sym, ◌∙◌}
-use borrow.Author.Rules.{rules}
 use Rattle.machine.specs.Psw.{malformed}
 use Rattle.machine.proofs.Tests.{tests}
 use Rattle.cpu.proofs.malformed_370.Goals as goal

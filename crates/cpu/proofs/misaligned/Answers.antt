@@ -1,6 +1,5 @@
 -- `cpu::misaligned` meets its contract.
 use mathlib.Core.Path.{refl}
-use borrow.Author.Rules.{rules}
 use Rattle.machine.specs.Units.{misaligned}
 use Rattle.cpu.proofs.misaligned.Goals as goal
 

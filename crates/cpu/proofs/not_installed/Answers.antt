@@ -1,5 +1,4 @@
 -- `cpu::not_installed` meets its contract.
-use borrow.Author.Rules.{rules}
 use Rattle.machine.specs.Psw.{not_installed}
 use Rattle.machine.proofs.Tests.{tests}
 use Rattle.cpu.proofs.not_installed.Goals as goal

@@ -1,7 +1,6 @@
 -- `cpu::old_psw` meets its contract.
 use native.Mathlib.Nat.{div-one}
 use mathlib.Core.Path.{sym, ◌∙◌}
-use borrow.Author.Rules.{rules}
 use Rattle.machine.specs.Psw.{old_psw}
 use Rattle.cpu.proofs.old_psw.Goals as goal
 

@@ -1,6 +1,5 @@
 -- `cpu::operand_address` meets its contract.
 use native.Mathlib.Nat.{div-one}
-use borrow.Author.Rules.{rules}
 use Rattle.machine.specs.Execute.{operand_address}
 use Rattle.cpu.proofs.Wrap.{wrap-wrap}
 use Rattle.cpu.proofs.operand_address.Goals as goal

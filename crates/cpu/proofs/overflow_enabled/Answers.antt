@@ -1,6 +1,5 @@
 -- `cpu::overflow_enabled` meets its contract.
 use mathlib.Core.Path.{sym, ◌∙◌}
-use borrow.Author.Rules.{rules}
 use Rattle.cpu.proofs.overflow_enabled.Goals as goal
 
 pub returns-then-basic_control : goal.returns-then-basic_control

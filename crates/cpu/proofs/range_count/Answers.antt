@@ -1,7 +1,6 @@
 -- `cpu::range_count` meets its contract.
 use native.Mathlib.Nat.{div-one}
 use native.Mathlib.Omega.{arith}
-use borrow.Author.Rules.{rules}
 use Rattle.machine.specs.Execute.{range_count}
 use Rattle.cpu.proofs.range_count.Goals as goal
 

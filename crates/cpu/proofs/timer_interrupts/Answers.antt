@@ -1,4 +1,3 @@
-use borrow.Author.Rules.{rules}
 use Rattle.cpu.proofs.timer_interrupts.Goals as goal
 
 pub returns : goal.returns

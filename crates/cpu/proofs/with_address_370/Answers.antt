@@ -1,5 +1,4 @@
 -- `cpu::with_address_370` meets its contract.
-use borrow.Author.Rules.{rules}
 use Rattle.machine.specs.Psw.{wrap, with_psw, with_address}
 use Rattle.cpu.proofs.with_address_370.Goals as goal
 

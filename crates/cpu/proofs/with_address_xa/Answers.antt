@@ -1,5 +1,4 @@
 -- `cpu::with_address_xa` meets its contract.
-use borrow.Author.Rules.{rules}
 use Rattle.machine.specs.Psw.{with_psw, with_address}
 use Rattle.cpu.proofs.with_address_xa.Goals as goal
 

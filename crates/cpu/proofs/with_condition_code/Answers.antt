@@ -1,7 +1,6 @@
 -- `cpu::with_condition_code` meets its contract.
 use native.Mathlib.Nat.{div-one}
 use mathlib.Core.Path.{sym, ◌∙◌}
-use borrow.Author.Rules.{rules}
 use Rattle.machine.specs.Psw.{with_psw, with_condition_code}
 use Rattle.cpu.proofs.with_condition_code.Goals as goal
 

@@ -2,7 +2,6 @@
 use native.Mathlib.Omega.{arith}
 use mathlib.Core.Bool.{not, and-false}
 use borrow.Author.Tests.{ne_eqb}
-use borrow.Author.Rules.{rules}
 use Rattle.machine.specs.Psw.{wrap}
 use Rattle.machine.proofs.Tests.{tests}
 use Rattle.cpu.proofs.wrapped.Goals as goal

@@ -1,6 +1,5 @@
 -- `cpu::wrapped_xa` meets its contract.
 use native.Mathlib.Omega.{arith}
-use borrow.Author.Rules.{rules}
 use Rattle.machine.specs.Psw.{wrap}
 use Rattle.machine.proofs.Tests.{tests}
 use Rattle.cpu.proofs.wrapped_xa.Goals as goal
