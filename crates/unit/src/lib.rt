@@ -1,6 +1,8 @@
 // One unit of a guest: the list before it, the fetch of the text, and the instruction, by what its tests come to. The contract of unit
 // equates how it ends, state, storage and keys with machine's unit put into effect. While the interval timer's word is shut, an
 // instruction that would complete is told and not done.
+#![tactic(auto)]
+
 ghost use Rattle.std.specs.Prelude.{◌≡◌, true, false, ◌≤◌, ◌<◌, length};
 ghost use Rattle.machine.specs.Refusals.{frames_of};
 ghost use Rattle.machine.specs.Host.{host, view};
