@@ -1,5 +1,4 @@
 -- `adder::add` meets its contract.
-use Rattle.std.proofs.Common.{rules}
 use Rattle.adder.proofs.add.Goals as goal
 
 pub returns : goal.returns

@@ -1,5 +1,5 @@
 -- `adder::difference_overflows` meets its contract.
-use Rattle.std.proofs.Common.{sym, rules}
+use Rattle.std.proofs.Common.{sym}
 use Rattle.machine.proofs.Tests.{tests}
 use Rattle.adder.proofs.difference_overflows.Goals as goal
 

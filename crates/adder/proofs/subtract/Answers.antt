@@ -1,5 +1,4 @@
 -- `adder::subtract` meets its contract.
-use Rattle.std.proofs.Common.{rules}
 use Rattle.adder.proofs.subtract.Goals as goal
 
 pub returns : goal.returns

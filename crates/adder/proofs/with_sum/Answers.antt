@@ -1,5 +1,5 @@
 -- `adder::with_sum` meets its contract.
-use Rattle.std.proofs.Common.{refl, ap, ◌∙◌, rules}
+use Rattle.std.proofs.Common.{refl, ap, ◌∙◌}
 use Rattle.machine.specs.Psw.{with_psw, with_general, with_condition_code}
 use Rattle.adder.proofs.Sums.{small_code, sum_state}
 use Rattle.adder.proofs.with_sum.Goals as goal
