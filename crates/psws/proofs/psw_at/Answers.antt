@@ -1,6 +1,5 @@
 -- `psws::psw_at` meets its contract.
 use mathlib.Core.Path.{refl, sym}
-use borrow.Author.Rules.{rules}
 use Rattle.machine.specs.Psw.{with_address}
 use Rattle.psws.specs.Psws.{state, psw_at}
 use Rattle.psws.proofs.psw_at.Goals as goal
