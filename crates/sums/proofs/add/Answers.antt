@@ -1,5 +1,4 @@
 -- `sums::add` meets its contract.
-use Rattle.std.proofs.Common.{rules}
 use Rattle.sums.proofs.Biased.{says_sum}
 use Rattle.sums.proofs.add.Goals as goal
 

@@ -1,5 +1,5 @@
 -- `sums::code_of` meets its contract.
-use Rattle.std.proofs.Common.{sym, ◌∙◌, arith, rules}
+use Rattle.std.proofs.Common.{sym, ◌∙◌, arith}
 use Rattle.machine.proofs.Tests.{tests}
 use Rattle.sums.specs.Summing.{code_in}
 use Rattle.sums.proofs.code_of.Goals as goal

@@ -1,5 +1,5 @@
 -- `sums::selects` meets its contract.
-use Rattle.std.proofs.Common.{sym, ap, ◌∙◌, rules}
+use Rattle.std.proofs.Common.{sym, ap, ◌∙◌}
 use Rattle.machine.specs.Execute.{selected}
 use Rattle.sums.proofs.Codes.{selects_all}
 use Rattle.sums.proofs.selects.Goals as goal

@@ -1,5 +1,5 @@
 -- `sums::subtract` meets its contract.
-use Rattle.std.proofs.Common.{arith, rules}
+use Rattle.std.proofs.Common.{arith}
 use Rattle.sums.proofs.Biased.{says_difference}
 use Rattle.sums.proofs.subtract.Goals as goal
 
