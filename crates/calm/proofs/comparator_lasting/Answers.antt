@@ -1,5 +1,5 @@
 -- `calm::comparator_lasting` meets its contract.
-use Rattle.std.proofs.Common.{refl, arith, rules, ne_eqb}
+use Rattle.std.proofs.Common.{refl, arith, ne_eqb}
 use Rattle.machine.specs.Words.{bit}
 use Rattle.machine.specs.Time.{comparator_due}
 use Rattle.calm.specs.Calming.{clocks}

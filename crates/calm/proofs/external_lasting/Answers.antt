@@ -1,5 +1,5 @@
 -- `calm::external_lasting` meets its contract.
-use Rattle.std.proofs.Common.{◌<◌, sym, ◌∙◌, arith, rules}
+use Rattle.std.proofs.Common.{◌<◌, sym, ◌∙◌, arith}
 use Rattle.calm.proofs.external_lasting.Goals as goal
 
 pub returns-then-both : goal.returns-then-both

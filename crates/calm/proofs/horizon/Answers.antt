@@ -1,6 +1,5 @@
 -- `calm::horizon` meets its contract.
-use Rattle.std.proofs.Common.{◌^◌, ◌<◌, sym, refl, ◌∙◌, arith, rules}
-use borrow.Author.Tests.{not-true, not-false}
+use Rattle.std.proofs.Common.{◌^◌, ◌<◌, sym, refl, ◌∙◌, arith}
 use Rattle.psws.specs.Psws.{state}
 use Rattle.calm.proofs.Listing.{formed_wrapped, calm_disabled, calm_silent}
 use Rattle.calm.proofs.horizon.Goals as goal

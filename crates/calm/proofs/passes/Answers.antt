@@ -1,5 +1,5 @@
 -- `calm::passes` meets its contract.
-use Rattle.std.proofs.Common.{sym, refl, ◌∙◌, div-one, rules, ne_eqb}
+use Rattle.std.proofs.Common.{sym, refl, ◌∙◌, div-one, ne_eqb}
 use borrow.Author.Tests.{not-true}
 use Rattle.psws.specs.Psws.{state}
 use Rattle.calm.proofs.Listing.{contrary}

@@ -1,6 +1,5 @@
 -- `calm::residue_after` meets its contract.
 use Rattle.std.proofs.Common.{◌≡◌, ℕ, ◌*◌, sym, refl, ap, ◌∙◌, mul_assoc, mul_comm, arith}
-use borrow.Author.Tests.{not-true, not-false}
 use Rattle.calm.specs.Calming.{residues}
 use Rattle.calm.proofs.Listing.{contrary}
 use Rattle.calm.proofs.residue_after.Goals as goal

@@ -1,6 +1,5 @@
 -- `calm::rising` meets its contract.
 use Rattle.std.proofs.Common.{◌-◌, ◌*◌, ◌^◌, ◌<◌, div-mul-le_self, arith, rules}
-use borrow.Author.Tests.{not-true}
 use Rattle.calm.specs.Calming.{residues}
 use Rattle.calm.proofs.Charging.{small_product, some_time, fewer_times}
 use Rattle.calm.proofs.Listing.{contrary}

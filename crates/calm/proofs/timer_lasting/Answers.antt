@@ -1,5 +1,5 @@
 -- `calm::timer_lasting` meets its contract.
-use Rattle.std.proofs.Common.{◌^◌, ◌<◌, arith, rules, ne_eqb}
+use Rattle.std.proofs.Common.{◌^◌, ◌<◌, arith, ne_eqb}
 use Rattle.machine.specs.Words.{bit}
 use Rattle.calm.specs.Calming.{timers}
 use Rattle.calm.proofs.Charging.{not_negative}
