@@ -1,4 +1,6 @@
 // The turns of a streak: where it stands after a lap, after a unit that a lap does not do, and after a turn in which none was done.
+#![tactic(auto)]
+
 ghost use Rattle.std.specs.Prelude.{◌≡◌, true, ◌+◌, ◌/◌, ◌≤◌, ◌<◌};
 ghost use Rattle.machine.specs.Refusals.{most_time};
 ghost use Rattle.machine.specs.Interval.{period};
