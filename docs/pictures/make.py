@@ -254,11 +254,11 @@ ROW, BOX, TALL = 64, 108, 32
 
 
 def read_crates():
-    """Each crate of the file with those that it names, and the callers in C over drevokas."""
+    """Each crate of the file with those that it names, and the callers in C over drevokas_c."""
     with open(CRATES) as file:
-        listed = {name: rest.split() for name, rest in (line.split(":", 1) for line in file if line.strip())}
+        listed = {name.split()[0]: rest.split() for name, rest in (line.split(":", 1) for line in file if line.strip())}
     crates = {name: [other for other in rest if other in listed] for name, rest in listed.items()}
-    crates[CALLERS] = ["drevokas"]
+    crates[CALLERS] = ["drevokas_c"]
     return crates
 
 
