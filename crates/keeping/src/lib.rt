@@ -1,4 +1,6 @@
 // The turn of a streak in which a block or the prefix page's place is kept.
+#![tactic(auto)]
+
 ghost use Rattle.std.specs.Prelude.{◌≤◌, ◌<◌, ◌≡◌, length};
 ghost use Rattle.machine.specs.Refusals.{frames_of};
 ghost use Rattle.storage.specs.Entered.{Entered};
