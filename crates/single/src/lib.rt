@@ -1,4 +1,6 @@
 // One unit on kept blocks that a lap does not do: SVC, LPSW, STCK, SPT, STPT, LCTL, STCTL.
+#![tactic(auto)]
+
 ghost use Rattle.std.specs.Prelude.{◌≡◌, false, ℕ, ◌+◌, ◌*◌, ◌≤◌, ◌<◌, length};
 ghost use Rattle.machine.specs.declared.Cpu.{Cpu};
 ghost use Rattle.machine.specs.Words.{half_at};
