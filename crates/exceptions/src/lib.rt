@@ -1,4 +1,6 @@
 // One unit on kept blocks whose tests come to an exception that interrupts: operation, privileged operation, specification.
+#![tactic(auto)]
+
 ghost use Rattle.std.specs.Prelude.{◌≡◌, false, ◌&&◌, List, ℕ, ◌+◌, ◌≤◌, ◌<◌, eqb, length};
 ghost use Rattle.machine.specs.Words.{bit};
 ghost use Rattle.machine.specs.Opcodes.{length_of};
