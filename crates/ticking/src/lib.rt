@@ -1,4 +1,6 @@
 // One unit with the interval timer's tick, done in full: a step of the definition, from a state in hand.
+#![tactic(auto)]
+
 ghost use Rattle.std.specs.Prelude.{◌≡◌, ◌&&◌, ◌≤◌, ◌<◌, length};
 ghost use Rattle.machine.specs.Refusals.{most_time, frames_of};
 ghost use Rattle.machine.specs.Interval.{active, period, pending};

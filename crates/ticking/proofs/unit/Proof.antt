@@ -1,5 +1,4 @@
 -- `ticking::unit` meets its contract.
--- Assumes nothing.
 use native.Mathlib.Omega.{arith}
 use mathlib.Core.Path.{◌≡◌, ap, sym, ◌∙◌}
 use mathlib.Core.Bool.{true, false, ◌&&◌, false≢true}
@@ -21,67 +20,51 @@ use Rattle.ticking.proofs.Whole.{Begun, begun_at, comes_at, goes_to, stops_to, f
 use Rattle.ticking.proofs.unit.Statement.{statement}
 use Rattle.ticking.proofs.unit.Tie as tie
 
--- the unit, whether the word is shut, what it does, and the start, seen from where the unit is done
-abbrev unit_of : tie.After-undone → tie.After-unit
-unit_of u = u.before.before.before.before.before
+begun : (u : tie.After-undone) → (n : Numbers) → n.designation ≡ u.args.designation → n.time ≡ u.args.time
+    → Begun n.designation n.time u.args.guest u.args.request u.args.residue u.args.storage.now u.find_due-due.result
+    u.args.requested
+begun u n designated at-time = let a = u.args in
+    begun_at designated at-time a.guest a.request a.residue a.storage.now u.find_due-due.result a.requested
+    (record { found = u.find_due-due.ensures; told = u.requires.1.1 })
 
-abbrev shutOf : tie.After-undone → tie.After-is-shut
-shutOf u = (unit_of u).before.before.before
+comes : (u : tie.After-undone) → (n : Numbers) → n.designation ≡ u.args.designation
+    → Comes (is_shut u.find_due-due.result) (host n.designation u.args.storage.now u.args.keys.now) u.args.guest u.args.start
+    (unit u.args.guest u.args.clock u.args.requested
+    (view u.args.guest (host n.designation u.args.storage.now u.args.keys.now)) u.args.start)
+    u.unit-done.result u.unit-done.new.storage u.unit-done.new.keys
+comes u n designated = let a = u.args in
+    let done = u.unit-done in
+    comes_at designated a.guest a.start a.clock a.storage.now a.keys.now u.find_due-due.result a.requested done.result done.new.storage done.new.keys
+    u.is_shut-shut.ensures done.ensures
 
-abbrev dueOf : tie.After-undone → tie.After-find-due
-dueOf u = (shutOf u).before
-
-abbrev start_of : tie.After-undone → tie.Start
-start_of u = (dueOf u).before.before.before.before
-
-begun : (u : tie.After-undone) → (n : Numbers) → n.designation ≡ (start_of u).args.designation → n.time ≡ (start_of u).args.time
-    → Begun n.designation n.time (start_of u).args.guest (start_of u).args.request (start_of u).args.residue (start_of u).args.storage.now (dueOf u).find-due.result
-    (start_of u).args.requested
-begun u n designated at-time =
-    let a = (start_of u).args in
-    begun_at designated at-time a.guest a.request a.residue a.storage.now (dueOf u).find-due.result a.requested
-    (record { found = (dueOf u).find-due.ensures; told = (start_of u).requires.1.1 })
-
-comes : (u : tie.After-undone) → (n : Numbers) → n.designation ≡ (start_of u).args.designation
-    → Comes (is_shut (dueOf u).find-due.result) (host n.designation (start_of u).args.storage.now (start_of u).args.keys.now) (start_of u).args.guest (start_of u).args.start
-    (unit (start_of u).args.guest (start_of u).args.clock (start_of u).args.requested
-    (view (start_of u).args.guest (host n.designation (start_of u).args.storage.now (start_of u).args.keys.now)) (start_of u).args.start)
-    (unit_of u).unit.result (unit_of u).unit.new.0 (unit_of u).unit.new.1.0
-comes u n designated =
-    let a = (start_of u).args in
-    let done = (unit_of u).unit in
-    comes_at designated a.guest a.start a.clock a.storage.now a.keys.now (dueOf u).find-due.result a.requested done.result done.last.0 done.last.1.0
-    (shutOf u).is-shut.ensures done.ensures
-
-find-due-requires : tie.Need-find-due-requires
+find-due-requires : tie.Need-find_due-due-requires
 find-due-requires c κs = search rules
 
-is-shut-requires : tie.Need-is-shut-requires
+is-shut-requires : tie.Need-is_shut-shut-requires
 is-shut-requires c κs = search rules
 
-unit-requires : tie.Need-unit-requires
+unit-requires : tie.Need-unit-done-requires
 unit-requires c κs = search rules
 
 undone-requires : tie.Need-undone-requires
 undone-requires c κs = search rules
 
-fault-end-requires : tie.Need-fault-end-requires
+fault-end-requires : tie.Need-fault_end-requires
 fault-end-requires c κs = search rules
 
-same_length : tie.Need-same-length
+same_length : tie.Need-shape_of-storage-then-undone
 same_length c = search rules
 
-same-length-2 : tie.Need-same-length-2
+same-length-2 : tie.Need-shape_of-keys-then-undone
 same-length-2 c = search rules
 
-returns : tie.Need-returns
+returns : tie.Need-returns-then-undone
 returns c =
-    let u = c.before.before in
-    let a = (start_of u).args in
-    let pre = (start_of u).requires in
-    let done = (unit_of u).unit in
-    let due = (dueOf u).find-due.result in
-    let seen : (is_shut due && is_completed done.result.event) ≡ true = sym u.undone.ensures ∙ c.before.if1.true in
+    let a = c.args in
+    let pre = c.requires in
+    let done = c.unit-done in
+    let due = c.find_due-due.result in
+    let seen : (is_shut due && is_completed done.result.event) ≡ true = sym c.undone.ensures ∙ c.if-undone.true in
     record {
       bounded = λ on. absurd (false≢true on);
       architecture = λ on. absurd (false≢true on);
@@ -89,54 +72,50 @@ returns c =
       on = λ on. absurd (false≢true on);
       exit = λ _ n d designated at-time of.
           faults_to n a.guest d of a.start pre.0.2 pre.0.3 a.request a.residue pre.1.2 a.clock a.storage.now a.keys.now due a.requested
-          (begun u n designated at-time) done.result done.last.0 done.last.1.0 (comes u n designated) seen
-          ∙ ap (λ e. ends e (machine_at a.guest d a.start a.request a.residue a.clock done.last.0 done.last.1.0)) (sym c.fault-end.ensures);
+          (begun c.before.before n designated at-time) done.result done.new.storage done.new.keys (comes c.before.before n designated) seen
+          ∙ ap (λ e. ends e (machine_at a.guest d a.start a.request a.residue a.clock done.new.storage done.new.keys)) (sym c.fault_end.ensures);
     }
 
-state-after-requires : tie.Need-state-after-requires
+state-after-requires : tie.Need-state_after-left-requires
 state-after-requires c κs = search rules
 
 completed-requires : tie.Need-completed-requires
 completed-requires c κs = search rules
 
-tick-requires : tie.Need-tick-requires
+tick-requires : tie.Need-tick-ticked-requires
 tick-requires c κs =
-    let u = c.before.before.before.before.before in
-    let a = (start_of u).args in
-    let pre = (start_of u).requires in (
+    let a = c.args in
+    let pre = c.requires in (
       pre.1.2,
       pre.1.3,
-      reaches a.designation a.guest a.storage.now (unit_of u).unit.new.0 a.residue a.time (dueOf u).find-due.result (dueOf u).find-due.ensures
-          u.before.before.before.before.storage.given,
+      reaches a.designation a.guest a.storage.now c.unit-done.new.storage a.residue a.time c.find_due-due.result c.find_due-due.ensures
+          c.storage-1.given,
     )
 
 charged-requires : tie.Need-charged-requires
 charged-requires c κs = search rules
 
-clock-after-requires : tie.Need-clock-after-requires
+clock-after-requires : tie.Need-clock_after-requires
 clock-after-requires c κs = search rules
 
-same-length-3 : tie.Need-same-length-3
+same-length-3 : tie.Need-shape_of-storage-then-completed
 same-length-3 c =
-    let u = c.before.before.before.before.before.before.before.before.before.before in
-    omega (arith, u.before.before.before.before.storage.given, c.before.before.before.storage2.given)
+    omega (arith, c.storage-1.given, c.storage-then-completed-1.given)
 
-same-length-4 : tie.Need-same-length-4
+same-length-4 : tie.Need-shape_of-keys-then-completed
 same-length-4 c = search rules
 
-returns-2 : tie.Need-returns-2
+returns-2 : tie.Need-returns-then-completed
 returns-2 c =
-    let charged' = c.before.charged in
-    let tick = c.before.before.before.before.tick in
-    let ended = c.before.before.before.before.before.before.before in
-    let state = ended.before.state-after in
-    let u = ended.before.before.before in
-    let a = (start_of u).args in
-    let pre = (start_of u).requires in
-    let done = (unit_of u).unit in
-    let due = (dueOf u).find-due.result in
-    let seen : (is_shut due && is_completed done.result.event) ≡ false = sym u.undone.ensures ∙ ended.before.before.if1.false in
-    let whole : is_completed done.result.event ≡ true = sym ended.completed.ensures ∙ c.before.before.before.before.before.before.if2.true in
+    let charged' = c.charged in
+    let tick = c.tick-ticked in
+    let state = c.state_after-left in
+    let a = c.args in
+    let pre = c.requires in
+    let done = c.unit-done in
+    let due = c.find_due-due.result in
+    let seen : (is_shut due && is_completed done.result.event) ≡ false = sym c.undone.ensures ∙ c.if-undone.false in
+    let whole : is_completed done.result.event ≡ true = sym c.completed.ensures ∙ c.if-completed.true in
     record {
       bounded = λ _. charged'.ensures.1;
       architecture = λ _. ap (λ k. k.psw.system370) (charged'.ensures.0 ∙ ap (λ k. charged k a.time) state.ensures.0)
@@ -144,39 +123,37 @@ returns-2 c =
       small = λ _. tick.ensures.0;
       on = λ _ n d designated at-time of.
           goes_to n a.guest d of a.start pre.0.2 pre.0.3 a.request a.residue pre.1.2 a.clock a.storage.now a.keys.now due a.requested
-          (begun u n designated at-time) done.result done.last.0 done.last.1.0 (comes u n designated) seen charged'.result charged'.ensures.1 whole
+          (begun c.before.before.before.before.before.before.before.before.before.before n designated at-time) done.result done.new.storage done.new.keys (comes c.before.before.before.before.before.before.before.before.before.before n designated) seen charged'.result charged'.ensures.1 whole
           (ap of_xa (charged'.ensures.0 ∙ (λ i. charged (state.ensures.0 i) (sym at-time i))) ∙ (charged_mode a.start.psw.system370 (left_by a.start done.result) n.time).0)
-          tick.result.request tick.result.residue tick.new.0
+          tick.result.request tick.result.residue tick.new.storage
           (λ on. ((tick.ensures.1 (pre.1.0 ∙ on)).0, (tick.ensures.1 (pre.1.0 ∙ on)).1 ∙ ap (residue_after a.residue) (sym at-time)))
           (λ off. tick.ensures.2 (pre.1.0 ∙ off))
-          ∙ ap (λ t. goes (machine_at a.guest d charged'.result tick.result.request tick.result.residue t tick.new.0 done.last.1.0))
-          (ap (clock_after a.clock) at-time ∙ sym c.clock-after.ensures);
+          ∙ ap (λ t. goes (machine_at a.guest d charged'.result tick.result.request tick.result.residue t tick.new.storage done.new.keys))
+          (ap (clock_after a.clock) at-time ∙ sym c.clock_after.ensures);
       exit = λ off. absurd (false≢true (sym off));
     }
 
-end-of-requires : tie.Need-end-of-requires
+end-of-requires : tie.Need-end_of-requires
 end-of-requires c κs = search rules
 
-behind-exit-requires : tie.Need-behind-exit-requires
+behind-exit-requires : tie.Need-behind_exit-requires
 behind-exit-requires c κs = search rules
 
-same-length-5 : tie.Need-same-length-5
+same-length-5 : tie.Need-shape_of-storage
 same-length-5 c = search rules
 
-same-length-6 : tie.Need-same-length-6
+same-length-6 : tie.Need-shape_of-keys
 same-length-6 c = search rules
 
-returns-3 : tie.Need-returns-3
+returns-3 : tie.Need-returns
 returns-3 c =
-    let ended = c.before.before.before in
-    let state = ended.before.state-after in
-    let u = ended.before.before.before in
-    let a = (start_of u).args in
-    let pre = (start_of u).requires in
-    let done = (unit_of u).unit in
-    let due = (dueOf u).find-due.result in
-    let seen : (is_shut due && is_completed done.result.event) ≡ false = sym u.undone.ensures ∙ ended.before.before.if1.false in
-    let exits : is_completed done.result.event ≡ false = sym ended.completed.ensures ∙ c.before.before.if2.false in
+    let state = c.state_after-left in
+    let a = c.args in
+    let pre = c.requires in
+    let done = c.unit-done in
+    let due = c.find_due-due.result in
+    let seen : (is_shut due && is_completed done.result.event) ≡ false = sym c.undone.ensures ∙ c.if-undone.false in
+    let exits : is_completed done.result.event ≡ false = sym c.completed.ensures ∙ c.if-completed.false in
     record {
       bounded = λ on. absurd (false≢true on);
       architecture = λ on. absurd (false≢true on);
@@ -184,9 +161,9 @@ returns-3 c =
       on = λ on. absurd (false≢true on);
       exit = λ _ n d designated at-time of.
           stops_to n a.guest d of a.start pre.0.2 pre.0.3 a.request a.residue pre.1.2 a.clock a.storage.now a.keys.now due a.requested
-          (begun u n designated at-time) done.result done.last.0 done.last.1.0 (comes u n designated) seen state.result state.ensures.1 exits
-          (ap of_xa state.ensures.0) _ (λ on. c.behind-exit.ensures (pre.1.0 ∙ on))
-          ∙ ap (λ e. ends e (machine_at a.guest d state.result c.behind-exit.result a.residue a.clock done.last.0 done.last.1.0)) (sym c.before.end_of_lem.ensures);
+          (begun c.before.before.before.before.before.before n designated at-time) done.result done.new.storage done.new.keys (comes c.before.before.before.before.before.before n designated) seen state.result state.ensures.1 exits
+          (ap of_xa state.ensures.0) _ (λ on. c.behind_exit.ensures (pre.1.0 ∙ on))
+          ∙ ap (λ e. ends e (machine_at a.guest d state.result c.behind_exit.result a.residue a.clock done.new.storage done.new.keys)) (sym c.end_of.ensures);
     }
 
 pub unit_spec : {M : Type 1} → statement M
