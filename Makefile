@@ -9,8 +9,7 @@ LIBRARY = target/staticlib/libdrevokas.a
 PROGRAM = target/bin/case
 COMMAND = target/bin/drevokas
 OBJECTS = $(patsubst shell/%.c,target/shell/%.o,$(wildcard shell/*.c))
-CRATES := case $(filter $(notdir $(wildcard crates/*)),$(shell sed -n 's/^case://p' crates.txt))
-PROVED := crates.txt toolchain.txt $(shell find $(addprefix crates/,$(CRATES)) -name must-fail -prune -o -type f -print)
+PROVED := crates.txt toolchain.txt $(shell find crates \( -name must-fail -o -name out \) -prune -o -type f -print)
 
 all: $(COMMAND) $(PROGRAM)
 
@@ -24,10 +23,9 @@ target/shell/%.o: shell/%.c $(wildcard shell/*.h) include/drevokas.h Makefile | 
 	@mkdir -p target/shell
 	$(QUIET)$(CC) $(CFLAGS) -c -o $@ $<
 
-# Every proof of the library is checked, which takes some minutes; done only when library or program is missing or older than
-# what they are made from.
+# Every proof is checked, which takes some minutes; done only when library or program is missing or older than what is proved.
 $(LIBRARY) $(PROGRAM) &: $(PROVED) | compiler
-	@sh tools/group.sh sh tools/prove.sh $(words $(CRATES))
+	@sh tools/group.sh sh tools/prove.sh
 
 compiler:
 	@sh tools/need.sh $(CC)
@@ -51,13 +49,13 @@ help:
 	@echo 'make              builds target/bin/drevokas; proves and builds target/staticlib/libdrevokas.a and target/bin/case'
 	@echo '                  when they are missing or old'
 	@echo 'make demo         builds, and runs the batch guest of examples'
-	@echo 'make gate         every proof and every test, from nothing (tests/gate.sh)'
+	@echo 'make gate         every proof, every must-fail edit and every test (tests/gate.sh)'
 	@echo 'make check-shell  builds, and runs the tests of the command'
 	@echo 'make check-docs   builds, and runs the examples of the documents'
 	@echo 'make clean        removes the command and its object files; library and program stay'
 	@echo 'V=1               shows the command lines of the compiler'
 
-# The gate removes target/: nothing is made beside it.
+# The gate makes library and program itself: nothing is made beside it.
 ifneq ($(filter gate,$(MAKECMDGOALS)),)
 .NOTPARALLEL:
 endif

@@ -1,7 +1,8 @@
 #!/bin/sh
-# The gate, which make gate runs: the sources' layout; every proof, every must-fail edit and the program, from nothing (rt ci);
-# then library and command are built and all tests are run, tests/rust, tests/tools and tests/c beside the others. The last line is
-# that of rt ci, printed when all has passed; otherwise what failed is named, and the exit status is 1.
+# The gate, which make gate runs: every proof, the sources' layout, every must-fail edit and the program (rt ci); then library and command
+# are built and all tests are run, tests/rust, tests/tools and tests/c beside the others. rt ci keeps what it passed, and proves again
+# only what has changed since, and what stands on that. The last line is that of rt ci, printed when all has passed; otherwise what
+# failed is named, and the exit status is 1.
 set -eu
 . "$(dirname "$0")/../tools/plain.sh"
 cd "$(dirname "$0")/.."
@@ -37,15 +38,29 @@ ended() { # PROCESS LOG
     return 1
 }
 
+# rt ci passes an edit that cannot be applied or read.
+no_edit_is_bad() {
+    ! grep '^rt: ok;.* must-fail edits: .*[0-9] bad' "$LOG"
+}
+
+# What rt ci has proved is not proved again where all that it made is there.
+build_library() {
+    { [ -z "$earlier" ] && sh tools/take.sh; } || sh tools/prove.sh
+}
+
 sh tools/need.sh rt gcc python3 cargo
 command -v valgrind > /dev/null || part 'installation of valgrind' install_valgrind
-part layout rt fmt --check
+earlier=$(find crates -path 'crates/*/out/rlib' -prune)
+mkdir -p target
+: > "$LOG"
+echo "gate: the first time some half an hour, by the machine; what the prover says goes to $LOG"
+part 'proofs and must-fail edits' sh tools/progress.sh "$LOG" . ci
 stop_if_failed
-crates=$(grep -c '^[a-z]' crates.txt)
-echo "gate: about half an hour on two processors; what the prover says goes to $LOG"
-part 'proofs and must-fail edits' sh tools/progress.sh "$LOG" "$crates" ci
+part 'each edit tells something' no_edit_is_bad
 stop_if_failed
-part build make all
+part 'library and program' build_library
+stop_if_failed
+part build make clean all
 stop_if_failed
 echo "gate: tests/rust, tests/tools and tests/c, beside the others; what they print goes to target/rust.log, tools.log and c.log"
 sh tests/rust/run.sh > target/rust.log 2>&1 &

@@ -1,24 +1,13 @@
 #!/bin/sh
-# progress.sh LOG CRATES WORDS...: runs rt with these words, from the root of the repository. All that it says goes to the end
-# of LOG; printed is a line for each of so many crates, each must-fail edit and each program, with its seconds, and what failed,
-# with the first errors. Ends with the status of rt.
+# progress.sh LOG FOLDER WORDS...: runs rt with these words in a folder, both seen from the root of the repository. All that it says
+# goes to the end of LOG; printed is a line for each crate, each must-fail edit and each program, with the seconds since the start,
+# and what failed, with the first errors. Ends with the status of rt.
 set -eu
-log=$1 crates=$2
+log=$1 folder=$2
 shift 2
+crates=$(grep -c '^[a-z]' crates.txt)
 edits=$(find crates -path '*/must-fail/*.edit' | wc -l)
-crate=0 edit=0 errors='' count=0 status=2 began=$(date +%s)
-
-# One job a processor: with three, each takes a tenth more of the processor's time. A job takes up to 2 GB, so there are no more
-# than twelve.
-processors=$(nproc)
-RT_JOBS=${RT_JOBS:-$((processors < 12 ? processors : 12))}
-export RT_JOBS
-
-# The seconds in a line of rt that ends with "N s)".
-seconds() {
-    took=${line% s)}
-    took=${took##*[!0-9]}
-}
+verb=$1 name='' crate=0 edit=0 errors='' count=0 status=2 began=$(date +%s)
 
 # Keeps the line, cut after some 300 characters, as one of the first three errors of its crate.
 keep() {
@@ -29,53 +18,61 @@ keep() {
 "
 }
 
-# A line of rt itself about a crate, an edit or a program.
+# A crate's check has ended so.
+ended() { # NAME HOW
+    crate=$((crate + 1))
+    [ "$2" = unchanged ] || echo "crate $crate of $crates, $1, $2, $(($(date +%s) - began)) s"
+    [ "$2" = proved ] || [ "$2" = unchanged ] || printf '%s' "$errors"
+    name='' errors='' count=0
+}
+
+# The crate whose lines these were has no line of its own for how its check ended: it did not end well, or there was nothing to do.
+left() {
+    [ -z "$name" ] || { [ "$count" -gt 0 ] && ended "$name" 'NOT PROVED'; } || ended "$name" unchanged
+}
+
+# A line of rt itself.
 show() {
-    name=${line#rt: }
-    name=${name#must-fail }
-    name=${name%%[: ]*}
-    case $line in
-    'rt: must-fail '*': refused, '*)
-        seconds
+    said=${line#rt: }
+    case $said in
+    'rt '* | 'chose '* | 'running '* | *': begins with what a check kept '* | *' must-fail edits were tried by an earlier run '* | \
+        'nothing has changed since '*) ;;
+    'must-fail '*': refused, as it must be'*)
+        said=${said#must-fail }
         edit=$((edit + 1))
-        echo "edit $edit of $edits, $name, refused, $took s"
+        echo "edit $edit of $edits, ${said%%: *}, refused"
         ;;
-    'rt: must-fail '*)
+    'must-fail '*)
+        said=${said#must-fail }
         edit=$((edit + 1))
-        echo "edit $edit of $edits, $name, ${line#*"$name": }"
+        printf 'edit %s of %s, %.300s\n' "$edit" "$edits" "${said%%: *}, ${said#*: }"
         ;;
-    *' proved (unchanged since it was last proved)')
-        crate=$((crate + 1))
+    *': its tests are proved') echo "tests of ${said%%: *}, proved, $(($(date +%s) - began)) s" && name='' errors='' count=0 ;;
+    *' proved') ended "${said% proved}" proved ;;
+    *' NOT PROVED'*) ended "${said%% NOT PROVED*}" "NOT PROVED${said#* NOT PROVED}" ;;
+    *' is kept: an earlier run '*) ended "${said%% is kept: *}" 'proved by an earlier run' ;;
+    *' ran, and wrote what its file stdout has') echo "program ${said%% ran, *}, ran and wrote what it must" ;;
+    *" ran (built by Rattle's own compiler), and wrote what its file stdout has")
+        echo "program ${said%% ran *}, built by the second compiler, ran and wrote what it must"
         ;;
-    *' proved ('*)
-        seconds
-        crate=$((crate + 1))
-        echo "crate $crate of $crates, $name, $took s"
-        ;;
-    *' NOT PROVED'*)
-        crate=$((crate + 1))
-        echo "crate $crate of $crates, $name, ${line#rt: "$name" }"
-        printf '%s' "$errors"
-        ;;
-    *' ran'*", and wrote what its file 'stdout' has ("*)
-        seconds
-        echo "program $name, ran and wrote what it must, $took s"
-        ;;
-    *' has the functions of '*) echo "library $name, $(($(date +%s) - began)) s" ;;
-    *) echo "${line#rt: }" ;;
+    *) printf '%.600s\n' "$said" ;;
     esac
-    errors='' count=0
 }
 
 {
-    sh tools/in_memory.sh "$RT_JOBS" rt "$@" 2>&1 && ended=0 || ended=$?
+    (cd "$folder" && exec rt "$@") 2>&1 && ended=0 || ended=$?
     echo "ended $ended"
 } | {
     while IFS= read -r line; do
-        case $line in
-        'ended '*) status=${line#ended } && continue ;;
-        'rt: '*) show ;;
-        *': error'* | 'note: /'* | *': no proof'*) keep ;;
+        case $verb:$line in
+        *:'ended '*) status=${line#ended } && continue ;;
+        *:'== summary') left && name=summary ;;
+        *:'== '*) left && name=${line#== } ;;
+        all:'logic=proved'*) [ -z "$name" ] || ended "$name" proved ;;
+        all:'logic=not-proved'*) [ -z "$name" ] || ended "$name" 'NOT PROVED' ;;
+        *:'rt: '*) show ;;
+        *:*': error'* | *:'note: src/'* | *:'note: proofs/'* | *:*': no proof'*) keep ;;
+        all:*' crates ok' | all:*': failed ('*')' | all:*': not run, since '*) [ "$name" != summary ] || echo "$line" ;;
         esac
         [ -d "${log%/*}" ] || mkdir -p "${log%/*}"
         printf '%s\n' "$line" >> "$log"

@@ -1,9 +1,9 @@
 #!/usr/bin/env python3
-"""Tests of the Makefile, of tools/ and of tests/gate.sh in a copy of the repository, where tests/tools/rt and gcc stand in for
-toolchain and compiler and the tests that the gate runs are empty; then of scripts in a strange environment."""
-import glob
+"""Tests of the Makefile, of tools/ and of tests/gate.sh in a copy of the repository, where tests/tools/rt, rattle and gcc stand
+in for toolchain and compiler and the tests that the gate runs are empty; then of scripts in a strange environment."""
 import os
 import pty
+import re
 import select
 import shutil
 import signal
@@ -17,9 +17,8 @@ LIBRARY, PROGRAM, COMMAND = "target/staticlib/libdrevokas.a", "target/bin/case",
 PARTS = ["tests/cases", "shell/tests", "tests/docs", "tests/c", "tests/tools", "tests/rust"]
 # what these print is shown only where they fail
 BESIDE = PARTS[-3:]
-TOOLS = "cargo cat dirname echo find gcc make mkdir python3 rm rt sed setsid sh sleep".split()
+TOOLS = "cargo cat dirname echo find gcc grep make mkdir python3 rm rt sed setsid sh sleep".split()
 SECONDS = 60
-MEMORY = "/dev/shm"
 # What a caller's environment may hold. MAKEFLAGS "n" alone would make every make in a script do nothing.
 STRANGE = {"MAKEFLAGS": "nw", "MFLAGS": "-nw", "MAKELEVEL": "2", "LANG": "tr_TR.UTF-8", "LC_ALL": "de_DE.UTF-8",
            "CDPATH": "/:/tmp", "GREP_OPTIONS": "--color=always", "GREP_COLORS": "mt=01", "POSIXLY_CORRECT": "1",
@@ -37,15 +36,20 @@ def write(text, *names):
 
 
 LISTED = dict(line.split(":") for line in read(ROOT, "crates.txt").splitlines())
-CRATES = list(LISTED)
-# what make proves: the program and what it rests on
-BUILT = [name for name in CRATES if name in ["case", *LISTED["case"].split()]]
+CRATES = [name.split()[0] for name in LISTED]
+# on which no other rests
+TOPS = [name for name in CRATES if not any(name in uses.split() for uses in LISTED.values())]
 PASSED = f"{len(CRATES) + 1} passed, 0 failed"  # the stand-in refuses one must-fail edit
 
 
-def progress(crate, crates=BUILT):
-    """How the line begins that tells how a crate's check ended, as one of these."""
-    return f"crate {crates.index(crate) + 1} of {len(crates)}, {crate}, "
+def progress(crate, how="proved", crates=CRATES):
+    """What the line that tells how a crate's check ended begins with, as one of these."""
+    return f"crate {crates.index(crate) + 1} of {len(CRATES)}, {crate}, {how}, "
+
+
+def in_time(lines):
+    """The lines, without the seconds at their ends."""
+    return [re.sub(r"\d+ s$", "", line) for line in lines]
 
 
 def wait_for(what):
@@ -82,11 +86,6 @@ def exit_status(process):
     return os.waitstatus_to_exitcode(found[1])
 
 
-def folders_in_memory():
-    """The folders for temporary files that tools/in_memory.sh has made, and not removed."""
-    return set(glob.glob(MEMORY + "/drevokas.*"))
-
-
 def is_running(process):
     """Whether there is such a process, and it has not ended."""
     try:
@@ -96,7 +95,7 @@ def is_running(process):
 
 
 class Copy(unittest.TestCase):
-    """A copy of the repository without target/."""
+    """A copy of the repository without target/ and what the toolchain has made."""
 
     def setUp(self):
         self.folder = tempfile.mkdtemp()
@@ -104,7 +103,7 @@ class Copy(unittest.TestCase):
         self.top = os.path.join(self.folder, "copy")
         self.store = os.path.join(self.folder, "store")
         for name in ["tools", "crates", "shell", "include", "examples", ".ci"]:
-            shutil.copytree(os.path.join(ROOT, name), os.path.join(self.top, name))
+            shutil.copytree(os.path.join(ROOT, name), os.path.join(self.top, name), ignore=shutil.ignore_patterns("out"))
         for name in ["Makefile", "toolchain.txt", "crates.txt", "tests/gate.sh"]:
             os.makedirs(os.path.dirname(os.path.join(self.top, name)), exist_ok=True)
             shutil.copy(os.path.join(ROOT, name), os.path.join(self.top, name))
@@ -120,7 +119,7 @@ class Copy(unittest.TestCase):
         """A folder with the stand-ins."""
         place = os.path.join(self.folder, "bin")
         os.mkdir(place)
-        for name in ["rt", "gcc"]:
+        for name in ["rt", "rattle", "gcc"]:
             shutil.copy(os.path.join(ROOT, "tests/tools", name), place)
         for name in ["cargo", "valgrind"]:
             os.symlink("/bin/true", os.path.join(place, name))
@@ -176,10 +175,10 @@ class Build(Copy):
     def test_progress(self):
         head, *lines = self.passes("make", "demo").splitlines()
         self.assertIn("target/proofs.log", head)
-        crates, (proved, library, built), demo = lines[:len(BUILT)], lines[len(BUILT):][:3], lines[len(BUILT) + 3:]
-        self.assertEqual(crates, [progress(name) + "3 s" for name in BUILT])
-        self.assertEqual([proved, built], [f"ok, {len(BUILT)} crates proved", "Built target/bin/drevokas."])
-        self.assertRegex(library, r"^library target/staticlib/libdrevokas.a, \d+ s$")
+        crates, (proved, library, built), demo = lines[:len(CRATES)], lines[len(CRATES):][:3], lines[len(CRATES) + 3:]
+        self.assertEqual(in_time(crates), [progress(name) for name in CRATES])
+        self.assertEqual(proved, f"{len(CRATES)} of {len(CRATES)} crates ok")
+        self.assertEqual([library, built], [f"Built {PROGRAM} and {LIBRARY}.", f"Built {COMMAND}."])
         self.assertEqual("\n".join(demo) + "\n", self.DEMO)
         self.assertIn("fn storage::first: proved\n", read(self.top, "target/proofs.log"))
         self.assertEqual(self.has(LIBRARY, PROGRAM, COMMAND), [LIBRARY, PROGRAM, COMMAND])
@@ -191,14 +190,15 @@ class Build(Copy):
             self.assertEqual(self.passes(*words), self.DEMO)
         self.assertEqual(self.calls(), [])
         os.remove(os.path.join(self.top, PROGRAM))
-        self.assertNotIn("crate ", self.passes("make"))
+        proved = [line for line in self.passes("make").splitlines() if line.startswith("crate ")]
+        self.assertEqual([line.split(", ")[1:3] for line in proved], [[name, "proved"] for name in TOPS])
         self.assertEqual(self.has(PROGRAM), [PROGRAM])
 
     def test_terminal(self):
         process, terminal = self.start_at_terminal("make", "demo")
         printed = read_terminal(terminal)
         self.assertEqual(exit_status(process), 0)
-        self.assertIn("\n" + progress("case") + "3 s\n", printed)
+        self.assertRegex(printed, f"\n{progress('case')}[0-9]+ s\n")
         self.assertTrue(printed.endswith("\n" + self.DEMO) and printed.replace("\n", "").isprintable(), printed)
 
     def test_compiler_shown(self):
@@ -212,14 +212,13 @@ class Build(Copy):
         self.assertEqual(self.calls() + self.has("target"), [])
 
     def test_proof_fails(self):
-        for goal, crates in [("demo", BUILT), ("gate", CRATES)]:
+        for goal in ["demo", "gate"]:
             printed = self.fails("make", goal, FAILS="storage")
-            self.assertIn(progress("storage", crates) + "NOT PROVED (exit 1, 3 s)\n    note: /crates/storage/src/lib.rt:1:",
-                          printed)
+            self.assertRegex(printed, progress("storage", "NOT PROVED") + r"[0-9]+ s\n    note: src/lib.rt:1:31: it is not proved")
             self.assertIn("all that it said is in target/", printed)
             self.assertEqual(self.has(LIBRARY), [])
         self.assertNotIn("passed, 0 failed", printed)
-        self.assertIn(progress("storage") + "3 s", self.passes("make", "demo"))
+        self.assertIn(", storage, proved, ", self.passes("make", "demo"))
 
     def test_missing(self):
         self.passes("make")
@@ -250,13 +249,36 @@ class Gate(Copy):
             printed = self.passes(*words)
             self.assertEqual(printed.splitlines()[-1], PASSED)
             self.assertIn("\nedit 1 of ", printed)
-            self.assertIn(", adder/sum, refused, 7 s\nprogram case, ran and wrote what it must, 0 s\n", printed)
+            self.assertIn(", adder/sum.edit, refused\nprogram case, ran and wrote what it must\n", printed)
             self.assertEqual(self.has(LIBRARY, PROGRAM, COMMAND), [LIBRARY, PROGRAM, COMMAND])
             self.assertIn(PASSED, read(self.top, "target/gate.log"))
-        self.calls()
+            # each crate is proved once
+            self.assertEqual([call for call in self.calls() if call.startswith("r")], ["rt ci", "rattle build"])
         self.assertEqual(self.passes("make", "demo"), Build.DEMO)
         self.assertEqual(self.calls(), [])
-        self.passes("make", "gate")
+
+    def test_gate_after_checks(self):
+        """Libraries that checks have left stay, and rt brings them up to date."""
+        self.passes("make")
+        self.calls()
+        self.assertEqual(self.passes("make", "gate").splitlines()[-1], PASSED)
+        calls = [call for call in self.calls() if call.startswith("r")]
+        self.assertEqual((calls[0], calls[1][:12], calls[2:]), ("rt ci", "rt all check", ["rt run", "rt lib"]))
+        self.assertEqual(self.has("crates/machine/out/rlib/machine.rlib"), ["crates/machine/out/rlib/machine.rlib"])
+
+    def test_gate_proves_again(self):
+        """Where the toolchain does not build the library from what rt ci left, it is built from new proofs."""
+        write("exit 1\n", self.folder, "bin", "rattle")
+        printed = self.passes("make", "gate")
+        self.assertIn("failed: rattle build", printed)
+        self.assertEqual(printed.splitlines()[-1], PASSED)
+        self.assertEqual(self.has(LIBRARY, PROGRAM, COMMAND), [LIBRARY, PROGRAM, COMMAND])
+
+    def test_bad_edit(self):
+        printed = self.fails("make", "gate", BADLY="1")
+        self.assertIn(", adder/other.edit, BAD EDIT: an 'old:' text is in src/lib.rt 0 times, and not once\n", printed)
+        self.assertIn("gate: failed: each edit tells something\n", printed)
+        self.assertNotIn("\n" + PASSED, printed)
 
     def test_ci(self):
         for more in [{}, STRANGE]:
@@ -279,7 +301,6 @@ class Interrupted(Copy):
     def interrupt(self, goal, how):
         """Ends make by how(process, terminal) while a prover runs: make fails, and neither prover nor library is left."""
         name = os.path.join(self.folder, "prover")
-        before = folders_in_memory()
         process, terminal = self.start_at_terminal("make", goal, HANGS=name)
         self.assertTrue(wait_for(lambda: os.path.exists(name) and read(name).endswith("\n")))
         prover = int(read(name))
@@ -289,7 +310,6 @@ class Interrupted(Copy):
         self.assertNotEqual(exit_status(process), 0)
         self.assertTrue(wait_for(lambda: not is_running(prover)))
         self.assertEqual(self.has(LIBRARY), [])
-        self.assertEqual(folders_in_memory() - before, set())
         os.remove(name)
 
     def test_interrupted(self):
@@ -299,39 +319,6 @@ class Interrupted(Copy):
         self.interrupt("gate", lambda process, terminal: os.killpg(process, signal.SIGHUP))
         self.assertTrue(self.passes("make", "demo").endswith(Build.DEMO))
         self.assertTrue(self.passes("make", "gate").endswith(PASSED + "\n"))
-
-
-class InMemory(Copy):
-    """tools/in_memory.sh: where a command has its temporary files."""
-
-    def asks(self, jobs, command='echo "${TMPDIR:-none}"; exit 3'):
-        """The exit status and the folder that a command of so many jobs says it has."""
-        self.environment.pop("TMPDIR", None)
-        status, printed = self.call("sh", "tools/in_memory.sh", str(jobs), "sh", "-c", command)
-        return status, printed.strip()
-
-    def test_no_room(self):
-        self.assertEqual(self.asks(10**6), (3, "none"))
-
-    @unittest.skipUnless(os.path.isdir(MEMORY), "there is no " + MEMORY)
-    def test_room(self):
-        status, folder = self.asks(1, 'echo "$TMPDIR"; echo text > "$TMPDIR/file" && cat "$TMPDIR/file" > "$STORE/text"; exit 3')
-        self.assertEqual(status, 3)
-        if folder:  # there is room
-            self.assertRegex(folder, "^" + MEMORY + "/drevokas.[0-9]+$")
-            self.assertEqual(read(self.store, "text"), "text\n")
-            self.assertFalse(os.path.exists(folder))
-
-    @unittest.skipUnless(os.path.isdir(MEMORY), "there is no " + MEMORY)
-    def test_left_behind(self):
-        ended = subprocess.Popen(["true"])
-        ended.wait()
-        killed, running = (f"{MEMORY}/drevokas.{process}" for process in [ended.pid, os.getpid()])
-        for folder in [killed, running]:
-            os.mkdir(folder)
-            self.addCleanup(shutil.rmtree, folder, ignore_errors=True)
-        self.asks(1)
-        self.assertEqual([os.path.exists(killed), os.path.exists(running)], [False, True])
 
 
 class Environment(unittest.TestCase):
@@ -352,8 +339,7 @@ class Environment(unittest.TestCase):
 
     def test_prologue(self):
         """Each script that a person may call reads tools/plain.sh before it does anything."""
-        others = {"tools/plain.sh", "tools/group.sh", "tools/progress.sh", "tools/in_memory.sh", "bench/library.sh",
-                  "examples/begin.sh"}
+        others = {"tools/plain.sh", "tools/group.sh", "tools/progress.sh", "bench/library.sh", "examples/begin.sh"}
         for folder, _, files in os.walk(ROOT):
             for name in files if not os.path.relpath(folder, ROOT).startswith(("target", ".git")) else []:
                 script = os.path.relpath(os.path.join(folder, name), ROOT)
