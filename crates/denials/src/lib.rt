@@ -1,5 +1,7 @@
 // A unit whose text or operand cannot be reached, with an exception that interrupts: protection, addressing and translation exceptions,
 // by numbers.
+#![tactic(auto)]
+
 ghost use Rattle.std.specs.Prelude.{◌≡◌, true, false, List, ℕ, ◌≤◌, ◌<◌, length};
 ghost use Rattle.machine.specs.Psw.{instruction_address};
 ghost use Rattle.machine.specs.Record.{Sixteen};
