@@ -1,5 +1,7 @@
 // Streaks: units on kept blocks, many at a time, and when to try one. A streak is as many units of the definition, each with its
 // tick.
+#![tactic(auto)]
+
 ghost use Rattle.std.specs.Prelude.{◌≡◌, ◌&&◌, ◌≤◌, ◌<◌, length};
 ghost use Rattle.machine.specs.Refusals.{most_time, frames_of};
 ghost use Rattle.machine.specs.Interval.{active, period};
