@@ -19,6 +19,9 @@ OUT=target/shell/tests
 make -s all
 rm -rf "$OUT"
 mkdir -p "$OUT"
+# No link stays: rt ci takes none in the repository.
+trap 'find "$OUT" -type l -exec rm -f {} +' EXIT
+trap 'exit 1' HUP INT TERM
 tests=0
 failed=0
 
