@@ -1,5 +1,7 @@
 // The run of a guest: units one after the other, each with the interval timer's tick where the timer is active. State, host clock,
 // units, the timer's request byte and its residue are in hand, and the record is out of the loop.
+#![tactic(auto)]
+
 ghost use Rattle.std.specs.Prelude.{◌≡◌, ℕ, ◌≤◌, ◌<◌, List, length};
 ghost use Rattle.machine.specs.declared.Numbers.{Numbers};
 ghost use Rattle.machine.specs.Refusals.{most_time, frames_of};

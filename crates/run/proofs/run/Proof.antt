@@ -1,5 +1,4 @@
 -- `run::run` meets its contract.
--- Assumes nothing.
 use Prim.Native.Nat.{◌+◌, ◌-◌, ◌^◌, ◌≤◌, ◌<◌}
 use native.Mathlib.Omega.{arith}
 use mathlib.Core.Path.{◌≡◌, refl, ◌∙◌}
@@ -18,30 +17,30 @@ use Rattle.run.proofs.Standing.{Stands, streak_on}
 use Rattle.run.proofs.run.Statement.{statement}
 use Rattle.run.proofs.run.Tie as tie
 
-abbrev invariant-loop : tie.invariant-loop
+abbrev invariant-loop : tie.invariant-loop-units
 invariant-loop storage₀ keys₀ designation guest clock time budget request residue active cpu₀ now₀ units₀ asked₀ rest₀ pace₀ storage keys cpu now units asked rest pace =
     Stands designation guest clock time budget cpu₀ request residue storage₀ keys₀ cpu asked rest now units storage keys
     × (units ≤ budget) × (length storage ≡ length storage₀) × (length keys ≡ length keys₀)
 
-abbrev decreases-loop : tie.decreases-loop
+abbrev decreases-loop : tie.decreases-loop-units
 decreases-loop storage₀ keys₀ designation guest clock time budget request residue active cpu₀ now₀ units₀ asked₀ rest₀ pace₀ storage keys cpu now units asked rest pace =
     budget - units
 
-active-requires : tie.Need-active-requires invariant-loop decreases-loop
+active-requires : tie.Need-active-active-requires invariant-loop decreases-loop
 active-requires c κs = tt
 
-loop-holds : tie.Need-loop-init invariant-loop decreases-loop
+loop-holds : tie.Need-loop-units-init invariant-loop decreases-loop
 loop-holds c = (
   record {
     bounded = record {
       left = search rules;
       right = search rules;
       timer = search rules;
-      control = record { long = search rules; small = λ i. let fits : Fits w32 (get_or c.before.before.before.args.start.control.words i 0) = search rules in fits.fits };
-      general = record { long = search rules; small = λ i. let fits : Fits w32 (get_or c.before.before.before.args.start.general.words i 0) = search rules in fits.fits };
+      control = record { long = search rules; small = λ i. let fits : Fits w32 (get_or c.args.start.control.words i 0) = search rules in fits.fits };
+      general = record { long = search rules; small = λ i. let fits : Fits w32 (get_or c.args.start.general.words i 0) = search rules in fits.fits };
     };
-    kind = c.before.before.before.requires.0.2;
-    small = c.before.before.before.requires.1.1;
+    kind = c.requires.0.2;
+    small = c.requires.1.1;
     remains = λ n d designated timed of. remains_start n _ _;
   },
   omega arith,
@@ -49,156 +48,127 @@ loop-holds c = (
   refl,
 )
 
--- the streak, where it began, and the start of the run, seen from behind the streak
+told : (p : tie.After-pace_after-pace invariant-loop decreases-loop) → p.both-requested.result ≡ (active p.args.guest && pending p.loop-units.asked)
+told p = p.both-requested.ensures ∙ (λ i. p.active-active.ensures i && p.pending.ensures i)
 
-abbrev streak_of : tie.After-pace-after invariant-loop decreases-loop → tie.After-paced-streak invariant-loop decreases-loop
-streak_of p = p.before.before.before.before.before
-
-abbrev bothOf : tie.After-pace-after invariant-loop decreases-loop → tie.After-both invariant-loop decreases-loop
-bothOf p = (streak_of p).before.before.before
-
-abbrev turn_of : tie.After-pace-after invariant-loop decreases-loop → tie.In-loop invariant-loop decreases-loop
-turn_of p = (bothOf p).before.before
-
-abbrev loop_of : tie.After-pace-after invariant-loop decreases-loop → tie.At-loop invariant-loop decreases-loop
-loop_of p = (turn_of p).before
-
-abbrev activeOf : tie.After-pace-after invariant-loop decreases-loop → tie.After-active invariant-loop decreases-loop
-activeOf p = (loop_of p).before
-
-abbrev start_of : tie.After-pace-after invariant-loop decreases-loop → tie.Start invariant-loop decreases-loop
-start_of p = (activeOf p).before.before.before
-
-told : (p : tie.After-pace-after invariant-loop decreases-loop) → (bothOf p).both.result ≡ (active (start_of p).args.guest && pending (loop_of p).loop.asked)
-told p = (bothOf p).both.ensures ∙ (λ i. (activeOf p).active.ensures i && (bothOf p).before.pending.ensures i)
-
-stands : (p : tie.After-pace-after invariant-loop decreases-loop)
-    → Stands (start_of p).args.designation (start_of p).args.guest (start_of p).args.clock (start_of p).args.time (start_of p).args.budget (start_of p).args.start (start_of p).args.request
-    (start_of p).args.residue (start_of p).args.storage.now (start_of p).args.keys.now p.before.before.after-streak.result (loop_of p).loop.asked
-    (streak_of p).paced-streak.result.residue (streak_of p).paced-streak.result.clock ((loop_of p).loop.units + (streak_of p).paced-streak.result.units)
-    (streak_of p).paced-streak.new.0 (loop_of p).loop.keys
-stands p =
-    let streak = (streak_of p).paced-streak in
-    let after = p.before.before.after-streak in
-    streak_on (loop_of p).loop.invariant.0 (bothOf p).both.result (told p) streak.result streak.last.0 streak.ensures.1 after.result after.ensures
+stands : (p : tie.After-pace_after-pace invariant-loop decreases-loop)
+    → Stands p.args.designation p.args.guest p.args.clock p.args.time p.args.budget p.args.start p.args.request
+    p.args.residue p.args.storage.now p.args.keys.now p.after_streak-cpu.result p.loop-units.asked
+    p.paced_streak-streak.result.residue p.paced_streak-streak.result.clock (p.loop-units.units + p.paced_streak-streak.result.units)
+    p.paced_streak-streak.new.storage p.loop-units.keys
+stands p = let streak = p.paced_streak-streak in
+    let after = p.after_streak-cpu in
+    streak_on p.loop-units.invariant.0 p.both-requested.result (told p) streak.result streak.new.storage streak.ensures.1 after.result after.ensures
 
 pending-requires : tie.Need-pending-requires invariant-loop decreases-loop
 pending-requires c κs = tt
 
-both-requires : tie.Need-both-requires invariant-loop decreases-loop
+both-requires : tie.Need-both-requested-requires invariant-loop decreases-loop
 both-requires c κs = tt
 
-sub-paced-streak : tie.Need-overflow-sub-paced-streak invariant-loop decreases-loop
+sub-paced-streak : tie.Need-overflow_sub-budget invariant-loop decreases-loop
 sub-paced-streak c = search rules
 
-paced-streak-requires : tie.Need-paced-streak-requires invariant-loop decreases-loop
+paced-streak-requires : tie.Need-paced_streak-streak-requires invariant-loop decreases-loop
 paced-streak-requires c κs =
-    let pre = c.before.before.before.before.before.before.before.before.before.requires in
-    let inv = c.before.before.before.before.before.loop.invariant in
-    (pre.0.0, omega (arith, pre.0.1, inv.2, inv.3), inv.0.bounded, inv.0.kind, c.before.before.before.before.before.before.active.ensures, inv.0.small, pre.1.0)
+    let pre = c.requires in
+    let inv = c.loop-units.invariant in
+    (pre.0.0, omega (arith, pre.0.1, inv.2, inv.3), inv.0.bounded, inv.0.kind, c.active-active.ensures, inv.0.small, pre.1.0)
 
-after-streak-requires : tie.Need-after-streak-requires invariant-loop decreases-loop
+after-streak-requires : tie.Need-after_streak-cpu-requires invariant-loop decreases-loop
 after-streak-requires c κs = tt
 
-add-units : tie.Need-overflow-add-units invariant-loop decreases-loop
+add-units : tie.Need-overflow_add-units invariant-loop decreases-loop
 add-units c =
-    let start = c.before.before.before.before.before.before.before.before.before.before.before.before.before.before in
-    let small : start.args.budget < 2 ^ 32 = search rules in
-    record { fits = omega (arith, small, c.before.before.before.before.paced-streak.ensures.0, c.before.before.before.before.before.before.before.before.before.loop-test.true) }
+    let small : c.args.budget < 2 ^ 32 = search rules in
+    record { fits = omega (arith, small, c.paced_streak-streak.ensures.0, c.loop-units-test.true) }
 
-pace-after-requires : tie.Need-pace-after-requires invariant-loop decreases-loop
+pace-after-requires : tie.Need-pace_after-pace-requires invariant-loop decreases-loop
 pace-after-requires c κs = tt
 
-unit-requires : tie.Need-unit-requires invariant-loop decreases-loop
+unit-requires : tie.Need-unit-step-requires invariant-loop decreases-loop
 unit-requires c κs =
-    let p = c.before.before.before in
-    let pre = (start_of p).requires in
-    let inv = (loop_of p).loop.invariant in (
-      (pre.0.0, omega (arith, pre.0.1, inv.2, inv.3, p.before.before.before.before.storage.given), (stands p).bounded, (stands p).kind),
-      ((activeOf p).active.ensures, told p, (stands p).small, pre.1.0),
+    let pre = c.requires in
+    let inv = c.loop-units.invariant in (
+      (pre.0.0, omega (arith, pre.0.1, inv.2, inv.3, c.storage-1.given), (stands c.before.before.before).bounded, (stands c.before.before.before).kind),
+      (c.active-active.ensures, told c.before.before.before, (stands c.before.before.before).small, pre.1.0),
     )
 
-same_length : tie.Need-same-length invariant-loop decreases-loop
+same_length : tie.Need-shape_of-storage-then-not-step invariant-loop decreases-loop
 same_length c =
-    let p = c.before.before.before.before.before.before.before.before.before.before.before in
-    omega (arith, (loop_of p).loop.invariant.2, p.before.before.before.before.storage.given, c.before.before.before.before.before.before.storage2.given)
+    omega (arith, c.loop-units.invariant.2, c.storage-1.given, c.storage-then-units-budget-1.given)
 
-same-length-2 : tie.Need-same-length-2 invariant-loop decreases-loop
+same-length-2 : tie.Need-shape_of-keys-then-not-step invariant-loop decreases-loop
 same-length-2 c =
-    let p = c.before.before.before.before.before.before.before.before.before.before.before in
-    omega (arith, (loop_of p).loop.invariant.3, c.before.before.before.before.keys.given)
+    omega (arith, c.loop-units.invariant.3, c.keys-1.given)
 
-returns : tie.Need-returns invariant-loop decreases-loop
+returns : tie.Need-returns-then-not-step invariant-loop decreases-loop
 returns c =
-    let p = c.before.before.before.before.before.before.before.before.before.before.before in
-    let a = (start_of p).args in
-    let loop = (loop_of p).loop in
-    let r = (streak_of p).paced-streak.result in
-    let step = c.before.before.before.before.before.before.before.unit in
+    let a = c.args in
+    let loop = c.loop-units in
+    let r = c.paced_streak-streak.result in
+    let step = c.unit-step in
     λ n d designated timed of.
     ended_so
     (exit_ends n a.budget _ (loop.units + r.units)
-    (machine_at a.guest d p.before.before.after-streak.result loop.asked r.residue r.clock (streak_of p).paced-streak.new.0 loop.keys)
-    ((stands p).remains n d designated timed of) c.before.before.before.before.before.before.before.before.before.before.if1.true (step.ensures.exit (not-true step.result.completed c.if2.true) n d designated timed of))
+    (machine_at a.guest d c.after_streak-cpu.result loop.asked r.residue r.clock c.paced_streak-streak.new.storage loop.keys)
+    ((stands c.before.before.before.before.before.before.before.before.before.before.before).remains n d designated timed of) c.if-units-budget.true (step.ensures.exit (not-true step.result.completed c.if-not-step.true) n d designated timed of))
     refl
 
-add-units-2 : tie.Need-overflow-add-units-2 invariant-loop decreases-loop
+add-units-2 : tie.Need-overflow_add-units-then-units-budget invariant-loop decreases-loop
 add-units-2 c =
-    let p = c.before.before.before.before.before.before.before.before.before.before.before in
-    record { fits = omega (arith, (start_of p).ranges.budget.fits, c.before.before.before.before.before.before.before.before.before.before.if1.true) }
+    record { fits = omega (arith, c.ranges.budget.fits, c.if-units-budget.true) }
 
-loop-less : tie.Need-loop-smaller invariant-loop decreases-loop
-loop-less c = omega (arith, c.before.before.before.before.before.before.before.before.before.before.if1.true)
+loop-less : tie.Need-loop-units-smaller-then-units-budget invariant-loop decreases-loop
+loop-less c = omega (arith, c.if-units-budget.true)
 
-loop-again : tie.Need-loop-preserved invariant-loop decreases-loop
+loop-again : tie.Need-loop-units-preserved-then-units-budget invariant-loop decreases-loop
 loop-again c =
-    let p = c.before.before.before.before.before.before.before.before.before.before.before in
-    let a = (start_of p).args in
-    let loop = (loop_of p).loop in
-    let r = (streak_of p).paced-streak.result in
-    let done = c.before.before.before.before.before.before.before.unit in
+    let a = c.args in
+    let loop = c.loop-units in
+    let r = c.paced_streak-streak.result in
+    let done = c.unit-step in
     let step = done.ensures in
-    let on = not-false done.result.completed c.if2.false in (
+    let on = not-false done.result.completed c.if-not-step.false in (
       record {
         bounded = step.bounded on;
-        kind = step.architecture on ∙ (stands p).kind;
+        kind = step.architecture on ∙ (stands c.before.before.before.before.before.before.before.before.before.before.before).kind;
         small = step.small on;
         remains = λ n d designated timed of.
             one_more n a.budget _ (loop.units + r.units)
-            (machine_at a.guest d p.before.before.after-streak.result loop.asked r.residue r.clock (streak_of p).paced-streak.new.0 loop.keys)
-            ((stands p).remains n d designated timed of) c.before.before.before.before.before.before.before.before.before.before.if1.true (step.on on n d designated timed of);
+            (machine_at a.guest d c.after_streak-cpu.result loop.asked r.residue r.clock c.paced_streak-streak.new.storage loop.keys)
+            ((stands c.before.before.before.before.before.before.before.before.before.before.before).remains n d designated timed of) c.if-units-budget.true (step.on on n d designated timed of);
       },
-      omega (arith, c.before.before.before.before.before.before.before.before.before.before.if1.true),
-      omega (arith, loop.inv.2, p.before.before.before.before.storage.given, c.before.before.before.before.before.before.storage2.given),
-      omega (arith, loop.inv.3, c.before.before.before.before.keys.given),
+      omega (arith, c.if-units-budget.true),
+      omega (arith, loop.invariant.2, c.storage-1.given, c.storage-then-units-budget-1.given),
+      omega (arith, loop.invariant.3, c.keys-1.given),
     )
 
-loop-less-2 : tie.Need-loop-smaller-2 invariant-loop decreases-loop
-loop-less-2 c = omega (arith, c.if1.false, (turn_of c.before).loop-test.taken)
+loop-less-2 : tie.Need-loop-units-smaller invariant-loop decreases-loop
+loop-less-2 c = omega (arith, c.if-units-budget.false, c.loop-units-test.true)
 
-loop-again-2 : tie.Need-loop-preserved-2 invariant-loop decreases-loop
-loop-again-2 c =
-    let p = c.before in (
-      stands p,
-      omega (arith, (streak_of p).paced-streak.ensures.0, (turn_of p).loop-test.true),
-      omega (arith, (loop_of p).loop.invariant.2, p.before.before.before.before.storage.given),
-      (loop_of p).loop.invariant.3,
-    )
+loop-again-2 : tie.Need-loop-units-preserved invariant-loop decreases-loop
+loop-again-2 c = (
+  stands c.before,
+  omega (arith, c.paced_streak-streak.ensures.0, c.loop-units-test.true),
+  omega (arith, c.loop-units.invariant.2, c.storage-1.given),
+  c.loop-units.invariant.3,
+)
 
-same-length-3 : tie.Need-same-length-3 invariant-loop decreases-loop
+same-length-3 : tie.Need-shape_of-storage invariant-loop decreases-loop
 same-length-3 c = search rules
 
-same-length-4 : tie.Need-same-length-4 invariant-loop decreases-loop
+same-length-4 : tie.Need-shape_of-keys invariant-loop decreases-loop
 same-length-4 c = search rules
 
-returns-2 : tie.Need-returns-2 invariant-loop decreases-loop
+returns-2 : tie.Need-returns invariant-loop decreases-loop
 returns-2 c =
-    let a = c.before.before.before.before.before.args in
-    let loop = c.before.loop in
+    let a = c.args in
+    let loop = c.loop-units in
     λ n d designated timed of.
     ended_so
     (budget_ends n a.budget _ loop.units (machine_at a.guest d loop.cpu loop.asked loop.rest loop.now loop.storage loop.keys)
-    (loop.invariant.0.remains n d designated timed of) loop.invariant.1 c.loop-test.false)
+    (loop.invariant.0.remains n d designated timed of) loop.invariant.1 c.loop-units-test.false)
     refl
 
 pub run_spec : {M : Type 1} → statement M
