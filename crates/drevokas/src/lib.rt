@@ -2,6 +2,8 @@
 // first unbacked one. No operation has a requires; each contract equates the answer, and all that the operation may write, with the
 // definition of machine's Operations or of desk's Desk and Unbacked, for every input, refused input too, packed as packing's specs/Packing
 // says. Crate drevokas_c exports them to C.
+#![tactic(auto)]
+
 ghost use Rattle.std.specs.Prelude.{◌≡◌};
 ghost use Rattle.machine.specs.Refusals.{run_verdict};
 ghost use Rattle.machine.specs.Host.{host};

@@ -1,0 +1,6 @@
+-- `drevokas::drevokas_check` meets its contract.
+use borrow.Author.Rules.{rules}
+use Rattle.drevokas.proofs.drevokas_check.Goals as goal
+
+pub returns : goal.returns
+returns c = rw (c.pack_check.ensures, c.check.ensures)
