@@ -26,14 +26,14 @@ fn branch(cpu: Cpu, text: Text, taken: bool, a: u32) -> Done
 }
 
 // The mask in bits 8-11 of the first halfword selects the condition code.
-fn selects(psw: Psw, first: u32) -> bool
+pub fn selects(psw: Psw, first: u32) -> bool
     ensures { (c : Cpu) → c.psw ≡ psw → result ≡ selected (bits 16 8 11 first) (condition_code c) }
 {
     cpu::selected(first / 16 % 16, cpu::condition_code(psw))
 }
 
 // The mask selects the condition code, and R2 is not zero.
-fn selects_register(psw: Psw, first: u32) -> bool
+pub fn selects_register(psw: Psw, first: u32) -> bool
     ensures { (c : Cpu) → c.psw ≡ psw → result ≡ (not (eqb (bits 16 12 15 first) 0) && selected (bits 16 8 11 first) (condition_code c)) }
 {
     if first % 16 == 0 {

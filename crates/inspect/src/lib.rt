@@ -78,7 +78,7 @@ fn translates(psw: Psw) -> bool
 }
 
 // translate of a 370-XA guest, once the input is accepted.
-fn translate_xa(
+pub fn translate_xa(
     r: &[u8],
     storage: &[u8],
     keys: &[u8],
@@ -107,7 +107,7 @@ fn translate_xa(
 }
 
 // translate of any other guest, once the input is accepted: entry looks at its mode, and its PSW may have DAT on.
-fn translate_other(
+pub fn translate_other(
     r: &[u8],
     storage: &[u8],
     keys: &[u8],
