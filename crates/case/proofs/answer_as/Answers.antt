@@ -1,5 +1,4 @@
 -- `case::answer_as` meets its contract.
-use borrow.Author.Rules.{rules}
 use mathlib.Core.Path.{sym, ◌∙◌}
 use Rattle.machine.specs.Answers.{stage_number}
 use Rattle.packing.specs.Packing.{packed_answer}

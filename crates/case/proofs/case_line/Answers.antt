@@ -1,5 +1,4 @@
 -- `case::case_line` meets its contract.
-use borrow.Author.Rules.{rules}
 use mathlib.Core.Path.{ap, ◌∙◌}
 use Rattle.lines.specs.Line.{packed_line}
 use Rattle.cases.proofs.Answers.{line_of_case}

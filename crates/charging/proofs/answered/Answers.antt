@@ -1,6 +1,5 @@
 -- `charging::answered` meets its contract.
 use mathlib.Core.Path.{refl}
-use borrow.Author.Rules.{rules}
 use Rattle.machine.specs.Run.{clears_t}
 use Rattle.machine.proofs.Tests.{tests}
 use Rattle.charging.proofs.answered.Goals as goal

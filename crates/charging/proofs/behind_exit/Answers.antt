@@ -1,7 +1,6 @@
 -- `charging::behind_exit` meets its contract.
 use mathlib.Core.Path.{sym, ◌∙◌}
 use mathlib.Core.Bool.{false≢true}
-use borrow.Author.Rules.{rules}
 use Rattle.charging.proofs.behind_exit.Goals as goal
 
 pub returns : goal.returns

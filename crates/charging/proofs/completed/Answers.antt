@@ -1,5 +1,4 @@
 -- `charging::completed` meets its contract.
-use borrow.Author.Rules.{rules}
 use mathlib.Core.Path.{refl}
 use Rattle.charging.specs.Ending.{is_completed}
 use Rattle.charging.proofs.completed.Goals as goal

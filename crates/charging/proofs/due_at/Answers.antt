@@ -1,6 +1,5 @@
 -- `charging::due_at` meets its contract.
 use mathlib.Core.Path.{refl}
-use borrow.Author.Rules.{rules}
 use Rattle.charging.proofs.due_at.Goals as goal
 
 pub returns-in-At : goal.returns-in-At

@@ -1,5 +1,4 @@
 -- `charging::end_of` meets its contract.
-use borrow.Author.Rules.{rules}
 use mathlib.Core.Path.{refl}
 use Rattle.charging.specs.Ending.{end_of}
 use Rattle.charging.proofs.end_of.Goals as goal

@@ -3,7 +3,6 @@ use mathlib.Core.Path.{ap, ◌∙◌}
 use Rattle.machine.specs.Interval.{request_after}
 use mathlib.Core.Path.{refl, subst}
 use Rattle.charging.specs.Ticking.{Reaches}
-use borrow.Author.Rules.{rules}
 use Rattle.charging.proofs.fallen.Goals as goal
 
 pub fall-word-requires : goal.fall-word-requires

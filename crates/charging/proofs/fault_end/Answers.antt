@@ -1,6 +1,5 @@
 -- `charging::fault_end` meets its contract.
 use mathlib.Core.Path.{refl}
-use borrow.Author.Rules.{rules}
 use Rattle.charging.proofs.fault_end.Goals as goal
 
 pub returns-in-Shut : goal.returns-in-Shut

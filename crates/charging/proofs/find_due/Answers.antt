@@ -3,7 +3,6 @@ use mathlib.Core.Path.{sym, subst, ◌∙◌}
 use mathlib.Core.Bool.{false≢true}
 use Rattle.charging.specs.Ticking.{DueFound}
 use Rattle.charging.proofs.Dues.{due_found}
-use borrow.Author.Rules.{rules}
 use Rattle.charging.proofs.find_due.Goals as goal
 
 pub returns-then-falls : goal.returns-then-falls

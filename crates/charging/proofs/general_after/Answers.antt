@@ -13,7 +13,10 @@ pub returns-then-register-lt16 : goal.returns-then-register-lt16
 returns-then-register-lt16 c =
     let words = c.args.general.words in (
       refl,
-      sixteen_set words _ _ (record { long = search rules; small = λ i. let fits : Fits w32 (get_or words i 0) = search rules in fits.fits }) (search rules),
+      sixteen_set words _ _ (record {
+        long = search rules;
+        small = λ i. let fits : Fits w32 (get_or words i 0) = search rules in fits.fits;
+      }) (search rules),
     )
 
 pub returns : goal.returns

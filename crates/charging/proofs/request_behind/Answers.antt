@@ -1,6 +1,5 @@
 -- `charging::request_behind` meets its contract.
 use mathlib.Core.Path.{refl}
-use borrow.Author.Rules.{rules}
 use Rattle.charging.specs.Ticking.{request_behind}
 use Rattle.charging.proofs.request_behind.Goals as goal
 

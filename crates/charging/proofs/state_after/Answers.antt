@@ -10,7 +10,12 @@ pub returns : goal.returns
 unfolding left_by
 returns c =
     let a = c.args in (
-      (λ i. record { psw = record { left = a.done.psw.left; right = a.done.psw.right; system370 = a.cpu.psw.system370 }; timer = a.done.timer; control = a.done.control; general = record { words = c.general_after.ensures.0 i } }),
+      (λ i. record {
+        psw = record { left = a.done.psw.left; right = a.done.psw.right; system370 = a.cpu.psw.system370 };
+        timer = a.done.timer;
+        control = a.done.control;
+        general = record { words = c.general_after.ensures.0 i };
+      }),
       record {
         left = search rules;
         right = search rules;

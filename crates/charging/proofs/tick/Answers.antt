@@ -1,7 +1,6 @@
 -- `charging::tick` meets its contract.
 use mathlib.Core.Path.{refl, sym, ◌∙◌}
 use mathlib.Core.Bool.{false≢true}
-use borrow.Author.Rules.{rules}
 use Rattle.charging.proofs.tick.Goals as goal
 
 pub returns-then-timed : goal.returns-then-timed

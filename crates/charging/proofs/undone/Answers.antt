@@ -1,6 +1,5 @@
 -- `charging::undone` meets its contract.
 use mathlib.Core.Path.{sym, ◌∙◌}
-use borrow.Author.Rules.{rules}
 use Rattle.charging.proofs.undone.Goals as goal
 
 pub returns-then-is_shut : goal.returns-then-is_shut

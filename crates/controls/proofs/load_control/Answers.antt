@@ -11,7 +11,11 @@ use Rattle.controls.proofs.load_control.Goals as goal
 pub returns-then-p-ge-NOWHERE : goal.returns-then-p-ge-NOWHERE
 returns-then-p-ge-NOWHERE c =
     let few = c.wanted.ensures.0 in
-    record { performs = λ done. absurd (omega (arith, few, done)); sixteen = (c.requires.1, λ _. refl); timer_value = (c.wanted.ensures.1, c.wanted.ensures.2, λ calm. absurd (omega (arith, few, calm))) }
+    record {
+      performs = λ done. absurd (omega (arith, few, done));
+      sixteen = (c.requires.1, λ _. refl);
+      timer_value = (c.wanted.ensures.1, c.wanted.ensures.2, λ calm. absurd (omega (arith, few, calm)));
+    }
 
 pub slice_bounds-load_words-end : goal.slice_bounds-load_words-end
 slice_bounds-load_words-end c =

@@ -13,13 +13,21 @@ use Rattle.controls.proofs.store_control.Goals as goal
 pub returns-then-p-ge-NOWHERE : goal.returns-then-p-ge-NOWHERE
 returns-then-p-ge-NOWHERE c =
     let few = c.wanted.ensures.0 in
-    record { performs = λ done. absurd (omega (arith, few, done)); storage_unchanged = (λ _. refl); timer_value = (c.wanted.ensures.1, c.wanted.ensures.2, λ calm. absurd (omega (arith, few, calm))) }
+    record {
+      performs = λ done. absurd (omega (arith, few, done));
+      storage_unchanged = (λ _. refl);
+      timer_value = (c.wanted.ensures.1, c.wanted.ensures.2, λ calm. absurd (omega (arith, few, calm)));
+    }
 
 pub returns-then-a-lt-LOW : goal.returns-then-a-lt-LOW
 returns-then-a-lt-LOW c =
     let wants = c.wanting.ensures in
     let want : c.wanting.result.want ≡ 4 = ap (λ r. r.want) wants in
-    record { performs = λ done. absurd (omega (arith, want, done)); storage_unchanged = (λ _. refl); timer_value = (ap (λ r. r.timer) wants, rw wants (omega arith), λ calm. absurd (omega (arith, want, calm))) }
+    record {
+      performs = λ done. absurd (omega (arith, want, done));
+      storage_unchanged = (λ _. refl);
+      timer_value = (ap (λ r. r.timer) wants, rw wants (omega arith), λ calm. absurd (omega (arith, want, calm)));
+    }
 
 pub slice_bounds-store_words-end : goal.slice_bounds-store_words-end
 slice_bounds-store_words-end c =

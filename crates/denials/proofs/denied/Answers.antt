@@ -1,5 +1,4 @@
 -- `denials::denied` meets its contract.
-use borrow.Author.Rules.{rules}
 use native.Mathlib.Omega.{arith}
 use mathlib.Core.Path.{refl, ap, sym, ◌∙◌}
 use Rattle.address.specs.Touching.{seen, touch_of}
@@ -8,7 +7,11 @@ use Rattle.denials.proofs.denied.Goals as goal
 
 pub returns-then-f : goal.returns-then-f
 returns-then-f c =
-    let e = c.wanting.ensures in record { denying = (λ done. absurd (omega (arith, done, ap (λ s. s.want) e))); storage_unchanged = (λ less. refl); near = ((λ is. absurd (omega (arith, is, ap (λ s. s.want) e))), omega (arith, ap (λ s. s.a) e)) }
+    let e = c.wanting.ensures in record {
+      denying = (λ done. absurd (omega (arith, done, ap (λ s. s.want) e)));
+      storage_unchanged = (λ less. refl);
+      near = ((λ is. absurd (omega (arith, is, ap (λ s. s.want) e))), omega (arith, ap (λ s. s.a) e));
+    }
 
 pub returns-then-is_text : goal.returns-then-is_text
 returns-then-is_text c =

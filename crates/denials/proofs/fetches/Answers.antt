@@ -1,5 +1,4 @@
 -- `denials::fetches` meets its contract.
-use borrow.Author.Rules.{rules}
 use mathlib.Core.Path.{refl}
 use mathlib.Core.Bool.{false}
 use Rattle.machine.specs.declared.Class.TheVariants.{L, Lpsw, Lctl, Spt}

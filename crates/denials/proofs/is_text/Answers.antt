@@ -1,5 +1,4 @@
 -- `denials::is_text` meets its contract.
-use borrow.Author.Rules.{rules}
 use mathlib.Core.Path.{refl, ◌∙◌}
 use borrow.Author.Tests.{eqb-true}
 use Rattle.psws.specs.Psws.{state}

@@ -1,5 +1,4 @@
 -- `denials::of_text` meets its contract.
-use borrow.Author.Rules.{rules}
 use native.Mathlib.Omega.{arith}
 use mathlib.Core.Path.{refl, ap}
 use Rattle.psws.specs.Psws.{state}
@@ -8,7 +7,11 @@ use Rattle.denials.proofs.of_text.Goals as goal
 
 pub returns-then-instruction_address-eq1 : goal.returns-then-instruction_address-eq1
 returns-then-instruction_address-eq1 c =
-    let e = c.wanting.ensures in record { by_index = (λ done. absurd (omega (arith, done, ap (λ s. s.want) e))); storage_unchanged = (λ less. refl); near = ((λ is. absurd (omega (arith, is, ap (λ s. s.want) e))), omega (arith, ap (λ s. s.a) e)) }
+    let e = c.wanting.ensures in record {
+      by_index = (λ done. absurd (omega (arith, done, ap (λ s. s.want) e)));
+      storage_unchanged = (λ less. refl);
+      near = ((λ is. absurd (omega (arith, is, ap (λ s. s.want) e))), omega (arith, ap (λ s. s.a) e));
+    }
 
 pub returns : goal.returns
 returns c =

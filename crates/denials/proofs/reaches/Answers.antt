@@ -1,5 +1,4 @@
 -- `denials::reaches` meets its contract.
-use borrow.Author.Rules.{rules}
 use mathlib.Core.Path.{sym, subst}
 use mathlib.Core.Bool.{Bool}
 use Rattle.denials.specs.Denying.{Reaching}

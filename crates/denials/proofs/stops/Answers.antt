@@ -1,5 +1,4 @@
 -- `denials::stops` meets its contract.
-use borrow.Author.Rules.{rules}
 use mathlib.Core.Path.{refl, ap, ◌∙◌}
 use Rattle.execute.proofs.Reaching.{not_both}
 use Rattle.dispatch.specs.Testing.{after_tests}

@@ -1,5 +1,4 @@
 -- `denials::stores` meets its contract.
-use borrow.Author.Rules.{rules}
 use mathlib.Core.Path.{refl}
 use mathlib.Core.Bool.{true}
 use Rattle.machine.specs.declared.Class.TheVariants.{St, Stctl, Stck, Stpt}

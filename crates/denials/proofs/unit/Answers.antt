@@ -1,5 +1,4 @@
 -- `denials::unit` meets its contract.
-use borrow.Author.Rules.{rules}
 use native.Mathlib.Omega.{arith}
 use mathlib.Core.Path.{refl, ap, sym, ◌∙◌}
 use Rattle.machine.specs.Host.{host}
@@ -15,9 +14,17 @@ denied-requires c =
 
 pub returns-in-At : goal.returns-in-At
 returns-in-At c =
-    let e = c.wanting.ensures in record { by_index = (λ done. absurd (omega (arith, done, ap (λ s. s.want) e))); storage_unchanged = (λ less. refl); near = ((λ is. absurd (omega (arith, is, ap (λ s. s.want) e))), omega (arith, ap (λ s. s.a) e)) }
+    let e = c.wanting.ensures in record {
+      by_index = (λ done. absurd (omega (arith, done, ap (λ s. s.want) e)));
+      storage_unchanged = (λ less. refl);
+      near = ((λ is. absurd (omega (arith, is, ap (λ s. s.want) e))), omega (arith, ap (λ s. s.a) e));
+    }
 
 pub returns-in-Denied : goal.returns-in-Denied
 returns-in-Denied c =
     let ends = c.denied.ensures in
-    record { by_index = (λ done clock. ends.denying done clock c.args.designation c.args.keys.now c.args.control.now (sym c.touch-place.ensures ∙ c.in-Denied.is)); storage_unchanged = ends.storage_unchanged; near = ends.near }
+    record {
+      by_index = (λ done clock. ends.denying done clock c.args.designation c.args.keys.now c.args.control.now (sym c.touch-place.ensures ∙ c.in-Denied.is));
+      storage_unchanged = ends.storage_unchanged;
+      near = ends.near;
+    }

@@ -1,6 +1,5 @@
 -- `drevokas::drevokas_add_page` meets its contract.
 use mathlib.Core.Path.{ap, ◌∙◌}
-use borrow.Author.Rules.{rules}
 use Rattle.replies.specs.Replying.{packed_call}
 use Rattle.drevokas.proofs.drevokas_add_page.Goals as goal
 

@@ -1,5 +1,4 @@
 -- `drevokas::drevokas_check` meets its contract.
-use borrow.Author.Rules.{rules}
 use Rattle.drevokas.proofs.drevokas_check.Goals as goal
 
 pub returns : goal.returns

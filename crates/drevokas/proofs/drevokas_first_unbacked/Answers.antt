@@ -1,6 +1,5 @@
 -- `drevokas::drevokas_first_unbacked` meets its contract.
 use mathlib.Core.Path.{ap, ◌∙◌}
-use borrow.Author.Rules.{rules}
 use Rattle.replies.specs.Replying.{packed_found, place_after_found}
 use Rattle.drevokas.proofs.drevokas_first_unbacked.Goals as goal
 

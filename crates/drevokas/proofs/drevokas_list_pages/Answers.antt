@@ -1,6 +1,5 @@
 -- `drevokas::drevokas_list_pages` meets its contract.
 use mathlib.Core.Path.{ap, ◌∙◌}
-use borrow.Author.Rules.{rules}
 use Rattle.replies.specs.Replying.{packed_listing}
 use Rattle.drevokas.proofs.drevokas_list_pages.Goals as goal
 

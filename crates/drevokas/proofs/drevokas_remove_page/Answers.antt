@@ -1,6 +1,5 @@
 -- `drevokas::drevokas_remove_page` meets its contract.
 use mathlib.Core.Path.{ap, ◌∙◌}
-use borrow.Author.Rules.{rules}
 use Rattle.replies.specs.Replying.{packed_call}
 use Rattle.drevokas.proofs.drevokas_remove_page.Goals as goal
 

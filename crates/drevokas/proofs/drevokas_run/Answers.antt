@@ -1,5 +1,4 @@
 -- `drevokas::drevokas_run` meets its contract.
-use borrow.Author.Rules.{rules}
 use Rattle.drevokas.proofs.Running.{run-packed}
 use Rattle.drevokas.proofs.drevokas_run.Goals as goal
 

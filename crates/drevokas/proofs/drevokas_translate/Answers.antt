@@ -1,7 +1,5 @@
 -- `drevokas::drevokas_translate` meets its contract: a refusal at once, else the answer of accepted input.
-use borrow.Author.Rules.{rules}
 use mathlib.Core.Path.{sym, ◌∙◌}
-use mathlib.Core.Logic.{⊎_elim}
 use Rattle.machine.specs.Host.{host}
 use Rattle.machine.specs.Operations.{translated_as}
 use Rattle.inspections.specs.Inspecting.{place_after}

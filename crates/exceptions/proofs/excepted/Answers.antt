@@ -7,11 +7,19 @@ use Rattle.exceptions.proofs.excepted.Goals as goal
 
 pub returns-then-intercepted : goal.returns-then-intercepted
 returns-then-intercepted c =
-    let e = c.wanting.ensures in record { timer_value = (λ done. absurd (omega (arith, done, ap (λ s. s.want) e))); storage_unchanged = (λ less. refl); near = ((λ is. absurd (omega (arith, is, ap (λ s. s.want) e))), omega (arith, ap (λ s. s.a) e)) }
+    let e = c.wanting.ensures in record {
+      timer_value = (λ done. absurd (omega (arith, done, ap (λ s. s.want) e)));
+      storage_unchanged = (λ less. refl);
+      near = ((λ is. absurd (omega (arith, is, ap (λ s. s.want) e))), omega (arith, ap (λ s. s.a) e));
+    }
 
 pub returns-then-area-ge2147483648 : goal.returns-then-area-ge2147483648
 returns-then-area-ge2147483648 c =
-    let e = c.wanting-then-area-ge2147483648.ensures in record { timer_value = (λ done. absurd (omega (arith, done, ap (λ s. s.want) e))); storage_unchanged = (λ less. refl); near = ((λ is. absurd (omega (arith, is, ap (λ s. s.want) e))), omega (arith, ap (λ s. s.a) e)) }
+    let e = c.wanting-then-area-ge2147483648.ensures in record {
+      timer_value = (λ done. absurd (omega (arith, done, ap (λ s. s.want) e)));
+      storage_unchanged = (λ less. refl);
+      near = ((λ is. absurd (omega (arith, is, ap (λ s. s.want) e))), omega (arith, ap (λ s. s.a) e));
+    }
 
 pub exception-requires : goal.exception-requires
 exception-requires c =

@@ -33,7 +33,11 @@ land-place-requires c =
 
 pub returns-then-not-place : goal.returns-then-not-place
 returns-then-not-place c =
-    let e = c.wanting.ensures in record { by_index = (λ done. absurd (omega (arith, done, ap (λ s. s.want) e))); storage_unchanged = (λ less. refl); near = ((λ is. absurd (omega (arith, is, ap (λ s. s.want) e))), omega (arith, ap (λ s. s.a) e)) }
+    let e = c.wanting.ensures in record {
+      by_index = (λ done. absurd (omega (arith, done, ap (λ s. s.want) e)));
+      storage_unchanged = (λ less. refl);
+      near = ((λ is. absurd (omega (arith, is, ap (λ s. s.want) e))), omega (arith, ap (λ s. s.a) e));
+    }
 
 -- where the text was found
 found : (psw : Psw) (kept : List ℕ) (address : ℕ) (l : Landing) → ((c : Cpu) → c.psw ≡ psw → address ≡ instruction_address c)
@@ -46,7 +50,11 @@ overflow_add-place c =
 
 pub returns-then-place : goal.returns-then-place
 returns-then-place c =
-    let e = c.wanting-then-place.ensures in record { by_index = (λ done. absurd (omega (arith, done, ap (λ s. s.want) e))); storage_unchanged = (λ less. refl); near = ((λ is. absurd (omega (arith, is, ap (λ s. s.want) e))), omega (arith, ap (λ s. s.a) e)) }
+    let e = c.wanting-then-place.ensures in record {
+      by_index = (λ done. absurd (omega (arith, done, ap (λ s. s.want) e)));
+      storage_unchanged = (λ less. refl);
+      near = ((λ is. absurd (omega (arith, is, ap (λ s. s.want) e))), omega (arith, ap (λ s. s.a) e));
+    }
 
 pub half_at-first-requires : goal.half_at-first-requires
 half_at-first-requires c = omega (arith, in_storage_lem c.args.psw c.args.kept.now c.args.storage.now c.requires.0 c.land-place.result (found c.args.psw c.args.kept.now _ c.land-place.result c.instruction_address.ensures c.land-place.ensures c.if-not-place.false) c.if-place.false)
@@ -118,8 +126,16 @@ returns-in-Excepted c =
 
 pub returns-in-Intercepted : goal.returns-in-Intercepted
 returns-in-Intercepted c =
-    let e = c.wanting-in-Intercepted.ensures in record { by_index = (λ done. absurd (omega (arith, done, ap (λ s. s.want) e))); storage_unchanged = (λ less. refl); near = ((λ is. absurd (omega (arith, is, ap (λ s. s.want) e))), omega (arith, ap (λ s. s.a) e)) }
+    let e = c.wanting-in-Intercepted.ensures in record {
+      by_index = (λ done. absurd (omega (arith, done, ap (λ s. s.want) e)));
+      storage_unchanged = (λ less. refl);
+      near = ((λ is. absurd (omega (arith, is, ap (λ s. s.want) e))), omega (arith, ap (λ s. s.a) e));
+    }
 
 pub returns-in-Clear : goal.returns-in-Clear
 returns-in-Clear c =
-    let e = c.wanting-in-Clear.ensures in record { by_index = (λ done. absurd (omega (arith, done, ap (λ s. s.want) e))); storage_unchanged = (λ less. refl); near = ((λ is. absurd (omega (arith, is, ap (λ s. s.want) e))), omega (arith, ap (λ s. s.a) e)) }
+    let e = c.wanting-in-Clear.ensures in record {
+      by_index = (λ done. absurd (omega (arith, done, ap (λ s. s.want) e)));
+      storage_unchanged = (λ less. refl);
+      near = ((λ is. absurd (omega (arith, is, ap (λ s. s.want) e))), omega (arith, ap (λ s. s.a) e));
+    }

@@ -1,7 +1,6 @@
 -- `execute::after_exception` meets its contract.
 use mathlib.Core.Path.{refl}
 use borrow.Author.Tests.{eq-eqb, ne_eqb}
-use borrow.Author.Rules.{rules}
 use Rattle.execute.proofs.Exceptions.{at_the_instruction, past_the_instruction}
 use Rattle.execute.proofs.after_exception.Goals as goal
 

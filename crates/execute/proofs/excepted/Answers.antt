@@ -3,7 +3,6 @@ use Rattle.machine.specs.Host.{host}
 use Rattle.machine.specs.Psw.{with_psw}
 use Rattle.interruptions.specs.After.{left_by}
 use Rattle.execute.proofs.Exceptions.{exception_of_lem}
-use borrow.Author.Rules.{rules}
 use Rattle.execute.proofs.excepted.Goals as goal
 
 pub returns : goal.returns

@@ -1,7 +1,6 @@
 -- `execute::exception` meets its contract.
 use mathlib.Core.Path.{refl, ap, sym, ◌∙◌}
 use borrow.Author.Tests.{eq-eqb, ne_eqb}
-use borrow.Author.Rules.{rules}
 use Rattle.machine.specs.Psw.{with_psw}
 use Rattle.machine.specs.Host.{host}
 use Rattle.interruptions.specs.After.{left_by}

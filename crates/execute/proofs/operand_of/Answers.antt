@@ -14,4 +14,7 @@ returns c =
     let a = c.args in
     let (wrapped, some, few) = c.requires.a_value in
     let found = c.find_operand.ensures ∙ sym (operand_seen a.guest _ a.cpu a.store a.a a.n) in
-    record { value = found; in_reach = subst (InReach _ _ _) (sym found) (in_reach a.guest a.designation _ _ a.cpu a.store a.a a.n wrapped some few c.requires.entered.1) }
+    record {
+      value = found;
+      in_reach = subst (InReach _ _ _) (sym found) (in_reach a.guest a.designation _ _ a.cpu a.store a.a a.n wrapped some few c.requires.entered.1);
+    }

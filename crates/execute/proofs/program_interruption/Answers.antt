@@ -1,7 +1,6 @@
 -- `execute::program_interruption` meets its contract.
 use native.Mathlib.Omega.{arith}
 use mathlib.Core.Path.{refl}
-use borrow.Author.Rules.{rules}
 use Rattle.execute.proofs.Exceptions.{fields_as_word, ilc_of-word, code_of-word}
 use Rattle.execute.proofs.program_interruption.Goals as goal
 

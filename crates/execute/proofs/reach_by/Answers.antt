@@ -4,7 +4,6 @@ use mathlib.Core.Bool.{true}
 use Rattle.machine.specs.Host.{host}
 use Rattle.execute.specs.Reaching.{InReach, Reaches}
 use Rattle.execute.proofs.Reaching.{not_both, reaches_shut}
-use borrow.Author.Rules.{rules}
 use Rattle.execute.proofs.reach_by.Goals as goal
 
 pub excepted-done-requires : goal.excepted-done-requires

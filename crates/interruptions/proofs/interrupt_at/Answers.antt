@@ -1,6 +1,5 @@
 -- `interruptions::interrupt_at` meets its contract.
 use mathlib.Core.Path.{ap, sym, subst, ◌∙◌}
-use borrow.Author.Rules.{rules}
 use Rattle.machine.specs.declared.Walk.TheVariants.{Page}
 use Rattle.machine.specs.Host.{referenced, changed}
 use Rattle.marks.specs.Marks.{mark_frame}

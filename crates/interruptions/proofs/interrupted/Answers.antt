@@ -1,6 +1,5 @@
 -- `interruptions::interrupted` meets its contract.
 use mathlib.Core.Path.{ap}
-use borrow.Author.Rules.{rules}
 use Rattle.machine.specs.Psw.{with_psw}
 use Rattle.interruptions.specs.After.{left_by, event_by, cpu_by}
 use Rattle.interruptions.proofs.interrupted.Goals as goal

@@ -2,7 +2,6 @@
 use Prim.Native.Nat.{◌+◌}
 use mathlib.Core.Path.{refl, ap, sym, ◌∙◌}
 use lib.Seq.{sets}
-use borrow.Author.Rules.{rules}
 use Rattle.machine.specs.Record.{psw_bytes}
 use Rattle.machine.specs.Psw.{old_psw}
 use Rattle.machine.specs.Interruptions.{fields_beside}

@@ -2,7 +2,6 @@
 use Prim.Native.Nat.{◌+◌}
 use mathlib.Core.Path.{refl, ap, ◌∙◌}
 use lib.Seq.{sets}
-use borrow.Author.Rules.{rules}
 use Rattle.machine.specs.Words.{word_bytes}
 use Rattle.interruptions.proofs.Words.{two_words}
 use Rattle.interruptions.proofs.put_psw.Goals as goal

@@ -2,7 +2,6 @@
 use Prim.Native.Nat.{◌+◌, ◌*◌}
 use native.Mathlib.Omega.{arith}
 use mathlib.Core.Path.{refl, ap, sym, ◌∙◌}
-use borrow.Author.Rules.{rules}
 use Rattle.machine.specs.Host.{host, backing, host_page}
 use Rattle.interruptions.proofs.Leaving.{keyed_found}
 use Rattle.interruptions.proofs.take.Goals as goal

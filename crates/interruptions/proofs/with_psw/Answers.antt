@@ -11,5 +11,13 @@ pub returns : goal.returns
 unfolding with_psw
 returns c =
     let a = c.args in
-    let sixteen : length a.cpu.general.words ≡ 16 = search rules in
-    (refl, none_set a.cpu event.Completed a.psw a.cpu.timer a.cpu.control sixteen, record { of_psw = refl; of_timer = refl; of_control = refl; sixteen = sixteen })
+    let sixteen : length a.cpu.general.words ≡ 16 = search rules in (
+      refl,
+      none_set a.cpu event.Completed a.psw a.cpu.timer a.cpu.control sixteen,
+      record {
+        of_psw = refl;
+        of_timer = refl;
+        of_control = refl;
+        sixteen = sixteen;
+      },
+    )

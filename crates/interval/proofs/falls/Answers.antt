@@ -1,7 +1,6 @@
 -- `interval::falls` meets its contract.
 use Rattle.machine.specs.Interval.{falls}
 use Rattle.machine.proofs.Tests.{tests}
-use Rattle.std.proofs.Common.{rules}
 use Rattle.interval.proofs.falls.Goals as goal
 
 pub returns : goal.returns

@@ -1,5 +1,5 @@
 -- `interval::find_word` meets its contract.
-use Rattle.std.proofs.Common.{sym, refl, ◌∙◌, subst, rules}
+use Rattle.std.proofs.Common.{sym, refl, ◌∙◌, subst}
 use Rattle.machine.specs.Host.{host, backing, host_page}
 use Rattle.machine.specs.Run.{host_of}
 use Rattle.interval.specs.Standing.{word_address, Short, Stands, InStorage}

@@ -1,7 +1,6 @@
 -- `interval::request_after` meets its contract.
 use Rattle.machine.specs.Interval.{request_after}
 use Rattle.machine.proofs.Tests.{tests}
-use Rattle.std.proofs.Common.{rules}
 use Rattle.interval.proofs.request_after.Goals as goal
 
 pub returns-then-request-eq1 : goal.returns-then-request-eq1

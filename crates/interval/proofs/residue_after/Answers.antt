@@ -1,5 +1,5 @@
 -- `interval::residue_after` meets its contract.
-use Rattle.std.proofs.Common.{arith, rules}
+use Rattle.std.proofs.Common.{arith}
 use Rattle.machine.specs.Interval.{falls, residue_after}
 use Rattle.machine.proofs.Tests.{tests}
 use Rattle.interval.proofs.residue_after.Goals as goal

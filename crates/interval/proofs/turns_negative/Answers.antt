@@ -1,7 +1,6 @@
 -- `interval::turns_negative` meets its contract.
 use Rattle.machine.specs.Interval.{turns_negative}
 use Rattle.machine.proofs.Tests.{tests}
-use Rattle.std.proofs.Common.{rules}
 use Rattle.interval.proofs.turns_negative.Goals as goal
 
 pub returns-then-word-eq1 : goal.returns-then-word-eq1

@@ -1,6 +1,5 @@
 -- `interval::word_after` meets its contract.
 use Rattle.machine.specs.Interval.{word_after}
-use Rattle.std.proofs.Common.{rules}
 use Rattle.interval.proofs.word_after.Goals as goal
 
 pub returns : goal.returns

@@ -1,7 +1,6 @@
 -- `keeping::keep_turn` meets its contract.
 use native.Mathlib.Omega.{arith}
 use mathlib.Core.Path.{sym, subst}
-use borrow.Author.Rules.{rules}
 use Rattle.machine.specs.Host.{host}
 use Rattle.area.specs.Keeping.{Area}
 use Rattle.keeping.proofs.keep_turn.Goals as goal

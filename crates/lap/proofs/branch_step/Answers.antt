@@ -1,5 +1,5 @@
 -- `lap::branch_step` meets its contract.
-use Rattle.std.proofs.Common.{rules, eq-eqb, ne_eqb}
+use Rattle.std.proofs.Common.{eq-eqb, ne_eqb}
 use Rattle.lap.specs.Stepping.{branch_step}
 use Rattle.lap.proofs.branch_step.Goals as goal
 

@@ -1,5 +1,5 @@
 -- `lap::elsewhere` meets its contract.
-use Rattle.std.proofs.Common.{◌<◌, sym, ap, subst, arith, rules}
+use Rattle.std.proofs.Common.{◌<◌, sym, ap, subst, arith}
 use Rattle.lap.proofs.elsewhere.Goals as goal
 
 pub returns-then-a-eq1 : goal.returns-then-a-eq1

@@ -1,5 +1,5 @@
 -- `lap::ended` meets its contract.
-use Rattle.std.proofs.Common.{◌<◌, subst, rules}
+use Rattle.std.proofs.Common.{◌<◌, subst}
 use Rattle.lap.proofs.ended.Goals as goal
 
 pub returns : goal.returns

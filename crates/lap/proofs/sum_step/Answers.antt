@@ -1,5 +1,5 @@
 -- `lap::sum_step` meets its contract.
-use Rattle.std.proofs.Common.{◌≡◌, false, ◌&&◌, sym, ap, ◌∙◌, ⊎_elim, rules}
+use Rattle.std.proofs.Common.{◌≡◌, false, ◌&&◌, sym, ap, ◌∙◌}
 use mathlib.Core.Bool.{and-false}
 use Rattle.sums.specs.Summing.{outside}
 use Rattle.lap.specs.Stepping.{sum_step}

@@ -1,5 +1,5 @@
 -- `lap::total` meets its contract.
-use Rattle.std.proofs.Common.{◌≡◌, ◌+◌, ◌*◌, ◌/◌, ◌%◌, ap, ◌∙◌, arith, rules}
+use Rattle.std.proofs.Common.{◌≡◌, ◌+◌, ◌*◌, ◌/◌, ◌%◌, ap, ◌∙◌, arith}
 use Rattle.machine.specs.Words.{byte_at, half_at}
 use Rattle.lap.specs.Stepping.{part_of}
 use Rattle.lap.proofs.total.Goals as goal

@@ -1,5 +1,5 @@
 -- `lap::units` meets its contract.
-use Rattle.std.proofs.Common.{◌≡◌, ℕ, suc, ◌+◌, ◌-◌, ◌<◌, ◌≤◌, List, length, sym, refl, ap, ◌∙◌, subst, ⊎_elim, arith, w32, Fits, rules}
+use Rattle.std.proofs.Common.{◌≡◌, ℕ, suc, ◌+◌, ◌-◌, ◌<◌, ◌≤◌, List, length, sym, refl, ap, ◌∙◌, subst, arith, w32, Fits, rules}
 use borrow.Author.Tests.{not-false}
 use Rattle.execute.proofs.Ending.{small_code}
 use Rattle.psws.specs.Psws.{state, psw_at}

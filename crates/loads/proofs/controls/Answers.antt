@@ -1,9 +1,6 @@
 -- `loads::controls` meets its contract. The loop's invariant: the words that are left, loaded from register `at` on, give what all of them give.
-use Prim.Native.Nat.{◌≤◌, ◌<◌, ◌-◌}
-use mathlib.Core.Path.{◌≡◌, refl, ap, ◌∙◌}
-use lib.ListN.{length}
-use Rattle.machine.specs.declared.Cpu.{Cpu}
-use Rattle.loads.proofs.Loading.{rest, one_register, all_registers}
+use mathlib.Core.Path.{refl, ap, ◌∙◌}
+use Rattle.loads.proofs.Loading.{one_register, all_registers}
 use borrow.Author.Rules.{rules}
 use Rattle.loads.proofs.controls.Goals as goal
 

@@ -1,10 +1,9 @@
 -- `loads::controls` meets its contract. The loop's invariant: the words that are left, loaded from register `at` on, give what all of them give.
 use Prim.Native.Nat.{◌≤◌, ◌<◌, ◌-◌}
-use mathlib.Core.Path.{◌≡◌, refl, ap, ◌∙◌}
+use mathlib.Core.Path.{◌≡◌}
 use lib.ListN.{length}
 use Rattle.machine.specs.declared.Cpu.{Cpu}
-use Rattle.loads.proofs.Loading.{rest, one_register, all_registers}
-use borrow.Author.Rules.{rules}
+use Rattle.loads.proofs.Loading.{rest}
 use Rattle.loads.proofs.controls.Given as goal
 
 abbrev pub invariant-loop-k : goal.invariant-loop-k

@@ -4,7 +4,6 @@ use mathlib.Core.Path.{refl}
 use Rattle.machine.specs.Host.{host}
 use Rattle.machine.specs.Execute.{load}
 use Rattle.loads.proofs.Fetching.{opened, general_loaded, fetch_shut, fetch_open}
-use borrow.Author.Rules.{rules}
 use Rattle.loads.proofs.load.Goals as goal
 
 pub reach-o-requires : goal.reach-o-requires

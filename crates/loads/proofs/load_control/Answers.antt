@@ -5,7 +5,6 @@ use mathlib.Core.Path.{refl, ap}
 use Rattle.machine.specs.Host.{host}
 use Rattle.machine.specs.Execute.{load_control}
 use Rattle.loads.proofs.Fetching.{opened, controls_loaded, fetch_shut, fetch_open}
-use borrow.Author.Rules.{rules}
 use Rattle.loads.proofs.load_control.Goals as goal
 
 pub reach-o-requires : goal.reach-o-requires

@@ -6,7 +6,6 @@ use mathlib.Core.Path.{sym, ap, ◌∙◌}
 use mathlib.Core.List.{List, ◌++◌}
 use lib.ListN.{take, drop, replicate}
 use lib.Seq.{length-take-le}
-use borrow.Author.Rules.{rules}
 use Rattle.machine.specs.Words.{words_at}
 use Rattle.machine.specs.Execute.{with_controls}
 use Rattle.reader.proofs.Parts.{front_within, front_count, front_is}

@@ -12,7 +12,11 @@ entry_good-requires c = let (k, accepted) = c.requires in rw c.guest_of-guest.en
 
 pub returns-then-not-entry_good : goal.returns-then-not-entry_good
 unfolding desk_as
-returns-then-not-entry_good c = rw (← c.guest_of-guest.ensures, ← c.entry_good.ensures, c.if-not-entry_good.true) (record { answer = refl; bytes = refl; count = refl })
+returns-then-not-entry_good c = rw (← c.guest_of-guest.ensures, ← c.entry_good.ensures, c.if-not-entry_good.true) (record {
+  answer = refl;
+  bytes = refl;
+  count = refl;
+})
 
 pub change_of-requires : goal.change_of-requires
 change_of-requires c =

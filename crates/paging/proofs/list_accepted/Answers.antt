@@ -12,7 +12,10 @@ entry_good-requires c = let (k, accepted) = c.requires in rw c.guest_of-guest.en
 
 pub returns-then-not-entry_good : goal.returns-then-not-entry_good
 unfolding list_as
-returns-then-not-entry_good c = rw (← c.guest_of-guest.ensures, ← c.entry_good.ensures, c.if-not-entry_good.true) (record { answer = refl; shown = refl })
+returns-then-not-entry_good c = rw (← c.guest_of-guest.ensures, ← c.entry_good.ensures, c.if-not-entry_good.true) (record {
+  answer = refl;
+  shown = refl;
+})
 
 pub list_for-requires : goal.list_for-requires
 list_for-requires c = entered-low _ (sym c.entry_good.ensures ∙ c.if-not-entry_good.false)

@@ -2,7 +2,6 @@
 use mathlib.Core.Path.{sym}
 use lib.Seq.{length-take-le}
 use Rattle.reader.proofs.Parts.{operand_of_parts}
-use borrow.Author.Rules.{rules}
 use Rattle.reader.proofs.get_operand.Goals as goal
 
 pub slice_bounds-get_part-end-2 : goal.slice_bounds-get_part-end-2

@@ -1,5 +1,5 @@
 -- `reader::get_part` meets its contract. The loop's invariant: the first `i` bytes are copied, and the part keeps its length.
-use Prim.Native.Nat.{◌≤◌, ◌<◌, ◌-◌}
+use Prim.Native.Nat.{◌<◌}
 use native.Mathlib.Omega.{arith}
 use native.Mathlib.Numerals.{add-one}
 use mathlib.Core.Path.{◌≡◌, refl, sym, ap, ◌∙◌}

@@ -1,11 +1,7 @@
 -- `reader::get_part` meets its contract. The loop's invariant: the first `i` bytes are copied, and the part keeps its length.
-use Prim.Native.Nat.{◌≤◌, ◌<◌, ◌-◌}
-use native.Mathlib.Omega.{arith}
-use native.Mathlib.Numerals.{add-one}
-use mathlib.Core.Path.{◌≡◌, refl, sym, ap, ◌∙◌}
-use lib.ListN.{length, take, drop, length-drop}
-use lib.Seq.{take_all, take-suc, take-suc-set, get_or-drop}
-use borrow.Author.Rules.{rules}
+use Prim.Native.Nat.{◌≤◌, ◌-◌}
+use mathlib.Core.Path.{◌≡◌}
+use lib.ListN.{length, take, drop}
 use Rattle.reader.proofs.get_part.Given as goal
 
 abbrev pub invariant-loop-i : goal.invariant-loop-i

@@ -3,7 +3,6 @@ use native.Mathlib.Omega.{arith}
 use mathlib.Core.Path.{sym, ap, ◌∙◌}
 use Rattle.machine.specs.Words.{double_at}
 use Rattle.reader.proofs.Parts.{part_double}
-use borrow.Author.Rules.{rules}
 use Rattle.reader.proofs.operand_double.Goals as goal
 
 pub returns-then-count-eq-DOUBLE : goal.returns-then-count-eq-DOUBLE

@@ -3,7 +3,6 @@ use native.Mathlib.Omega.{arith}
 use mathlib.Core.Path.{sym, ap, ◌∙◌}
 use Rattle.machine.specs.Record.{psw_of}
 use Rattle.reader.proofs.Parts.{part_psw}
-use borrow.Author.Rules.{rules}
 use Rattle.reader.proofs.operand_psw.Goals as goal
 
 pub returns-then-count-eq-DOUBLE : goal.returns-then-count-eq-DOUBLE

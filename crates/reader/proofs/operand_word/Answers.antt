@@ -3,7 +3,6 @@ use native.Mathlib.Omega.{arith}
 use mathlib.Core.Path.{sym, ap, ◌∙◌}
 use Rattle.machine.specs.Words.{word_at}
 use Rattle.reader.proofs.Parts.{part_word}
-use borrow.Author.Rules.{rules}
 use Rattle.reader.proofs.operand_word.Goals as goal
 
 pub returns-then-count-eq-WORD : goal.returns-then-count-eq-WORD

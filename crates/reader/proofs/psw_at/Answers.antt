@@ -1,6 +1,5 @@
 -- `reader::psw_at` meets its contract.
 use Rattle.machine.specs.Record.{psw_of}
-use borrow.Author.Rules.{rules}
 use Rattle.reader.proofs.psw_at.Goals as goal
 
 pub returns : goal.returns

@@ -32,7 +32,12 @@ land-text-requires c =
 pub returns-then-not-text : goal.returns-then-not-text
 returns-then-not-text c =
     let a = c.args in
-    let both = wants a.psw a.timer a.storage.now a.control.now (Singles a.guest a.clock (start a.psw a.timer a.words.now a.control.now) a.kept.now a.area a.storage.now) c.requires.3 0 (omega arith) c.wanting.result c.wanting.ensures in record { singles = both.0; storage_unchanged = both.1.0; near = both.1.1.0; a_bound = both.1.1.1 }
+    let both = wants a.psw a.timer a.storage.now a.control.now (Singles a.guest a.clock (start a.psw a.timer a.words.now a.control.now) a.kept.now a.area a.storage.now) c.requires.3 0 (omega arith) c.wanting.result c.wanting.ensures in record {
+      singles = both.0;
+      storage_unchanged = both.1.0;
+      near = both.1.1.0;
+      a_bound = both.1.1.1;
+    }
 
 pub overflow_add-text : goal.overflow_add-text
 overflow_add-text c =
@@ -43,7 +48,12 @@ overflow_add-text c =
 pub returns-then-at-text : goal.returns-then-at-text
 returns-then-at-text c =
     let a = c.args in
-    let both = wants a.psw a.timer a.storage.now a.control.now (Singles a.guest a.clock (start a.psw a.timer a.words.now a.control.now) a.kept.now a.area a.storage.now) c.requires.3 4 (omega arith) c.wanting-then-at-text.result c.wanting-then-at-text.ensures in record { singles = both.0; storage_unchanged = both.1.0; near = both.1.1.0; a_bound = both.1.1.1 }
+    let both = wants a.psw a.timer a.storage.now a.control.now (Singles a.guest a.clock (start a.psw a.timer a.words.now a.control.now) a.kept.now a.area a.storage.now) c.requires.3 4 (omega arith) c.wanting-then-at-text.result c.wanting-then-at-text.ensures in record {
+      singles = both.0;
+      storage_unchanged = both.1.0;
+      near = both.1.1.0;
+      a_bound = both.1.1.1;
+    }
 
 pub overflow_add-registers : goal.overflow_add-registers
 overflow_add-registers c =
@@ -66,12 +76,22 @@ bounds-storage-at-2 c =
 pub returns-then-kind-eq-LAP : goal.returns-then-kind-eq-LAP
 returns-then-kind-eq-LAP c =
     let a = c.args in
-    let both = wants a.psw a.timer a.storage.now a.control.now (Singles a.guest a.clock (start a.psw a.timer a.words.now a.control.now) a.kept.now a.area a.storage.now) c.requires.3 0 (omega arith) c.wanting-then-kind-eq-LAP.result c.wanting-then-kind-eq-LAP.ensures in record { singles = both.0; storage_unchanged = both.1.0; near = both.1.1.0; a_bound = both.1.1.1 }
+    let both = wants a.psw a.timer a.storage.now a.control.now (Singles a.guest a.clock (start a.psw a.timer a.words.now a.control.now) a.kept.now a.area a.storage.now) c.requires.3 0 (omega arith) c.wanting-then-kind-eq-LAP.result c.wanting-then-kind-eq-LAP.ensures in record {
+      singles = both.0;
+      storage_unchanged = both.1.0;
+      near = both.1.1.0;
+      a_bound = both.1.1.1;
+    }
 
 pub returns-then-kind-eq-REST : goal.returns-then-kind-eq-REST
 returns-then-kind-eq-REST c =
     let a = c.args in
-    let both = wants a.psw a.timer a.storage.now a.control.now (Singles a.guest a.clock (start a.psw a.timer a.words.now a.control.now) a.kept.now a.area a.storage.now) c.requires.3 16 (omega arith) c.wanting-then-kind-eq-REST.result c.wanting-then-kind-eq-REST.ensures in record { singles = both.0; storage_unchanged = both.1.0; near = both.1.1.0; a_bound = both.1.1.1 }
+    let both = wants a.psw a.timer a.storage.now a.control.now (Singles a.guest a.clock (start a.psw a.timer a.words.now a.control.now) a.kept.now a.area a.storage.now) c.requires.3 16 (omega arith) c.wanting-then-kind-eq-REST.result c.wanting-then-kind-eq-REST.ensures in record {
+      singles = both.0;
+      storage_unchanged = both.1.0;
+      near = both.1.1.0;
+      a_bound = both.1.1.1;
+    }
 
 pub call-requires : goal.call-requires
 call-requires c = (omega arith, c.requires.4)
@@ -87,7 +107,12 @@ returns-then-kind-eq-SVC c =
     calls_singles a.storage.now a.kept.now c.requires.0 a.psw c.land-text.result (found a.psw a.kept.now _ c.land-text.result c.instruction_address-address.ensures c.land-text.ensures c.if-not-text.false) (omega (arith, c.if-at-text.false)) a.words.now c.requires.2.long
     a.guest a.clock a.timer a.control.now a.area unit.result a.control.now unit.new.storage _ (get_or a.storage.now (at + 1) 0) refl refl (omega arith)
     (kind.ensures.1 c.if-kind-eq-SVC.true) time refl calls)
-    (unit.ensures.want_value, (unit.ensures.storage_unchanged, unit.ensures.timer_value)) in record { singles = both.0; storage_unchanged = both.1.0; near = both.1.1.0; a_bound = both.1.1.1 }
+    (unit.ensures.want_value, (unit.ensures.storage_unchanged, unit.ensures.timer_value)) in record {
+      singles = both.0;
+      storage_unchanged = both.1.0;
+      near = both.1.1.0;
+      a_bound = both.1.1.1;
+    }
 
 pub operand-a-requires : goal.operand-a-requires
 operand-a-requires c =
@@ -115,4 +140,9 @@ returns c =
     a.guest a.clock a.timer a.control.now a.area unit.result unit.new.control unit.new.storage _ registers refl refl (omega arith)
     (kind.ensures.2 other).0 (kind.ensures.2 other).1 (omega arith) kind.result (kind.ensures.0 some).0
     long.result (long.ensures (state a.psw) refl) place.result place.ensures.0)
-    (unit.ensures.operates, (unit.ensures.storage_unchanged, (unit.ensures.near, unit.ensures.a_bound))) in record { singles = both.0; storage_unchanged = both.1.0; near = both.1.1.0; a_bound = both.1.1.1 }
+    (unit.ensures.operates, (unit.ensures.storage_unchanged, (unit.ensures.near, unit.ensures.a_bound))) in record {
+      singles = both.0;
+      storage_unchanged = both.1.0;
+      near = both.1.1.0;
+      a_bound = both.1.1.1;
+    }

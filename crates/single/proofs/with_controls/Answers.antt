@@ -22,7 +22,12 @@ Does guest psw timer control kept kind registers a storage r control' storage' =
 pub returns-then-intercepts_lctl : goal.returns-then-intercepts_lctl
 returns-then-intercepts_lctl c =
     let a = c.args in
-    let both = wants a.psw a.timer a.storage.now a.control.now (Does a.guest a.psw a.timer a.control.now a.kept.now a.kind a.registers a.a a.storage.now) c.requires.1 4 (omega arith) c.wanting.result c.wanting.ensures in record { operates = both.0; storage_unchanged = both.1.0; near = both.1.1.0; a_bound = both.1.1.1 }
+    let both = wants a.psw a.timer a.storage.now a.control.now (Does a.guest a.psw a.timer a.control.now a.kept.now a.kind a.registers a.a a.storage.now) c.requires.1 4 (omega arith) c.wanting.result c.wanting.ensures in record {
+      operates = both.0;
+      storage_unchanged = both.1.0;
+      near = both.1.1.0;
+      a_bound = both.1.1.1;
+    }
 
 pub returns-then-kind-eq-LCTL : goal.returns-then-kind-eq-LCTL
 returns-then-kind-eq-LCTL c =
@@ -58,4 +63,9 @@ returns-then-kind-eq-STCTL c =
 pub returns : goal.returns
 returns c =
     let a = c.args in
-    let both = wants a.psw a.timer a.storage.now a.control.now (Does a.guest a.psw a.timer a.control.now a.kept.now a.kind a.registers a.a a.storage.now) c.requires.1 4 (omega arith) c.wanting-2.result c.wanting-2.ensures in record { operates = both.0; storage_unchanged = both.1.0; near = both.1.1.0; a_bound = both.1.1.1 }
+    let both = wants a.psw a.timer a.storage.now a.control.now (Does a.guest a.psw a.timer a.control.now a.kept.now a.kind a.registers a.a a.storage.now) c.requires.1 4 (omega arith) c.wanting-2.result c.wanting-2.ensures in record {
+      operates = both.0;
+      storage_unchanged = both.1.0;
+      near = both.1.1.0;
+      a_bound = both.1.1.1;
+    }

@@ -1,11 +1,9 @@
 -- `stores::put_controls` meets its contract. The loop's invariant: with the registers that are left stored behind the first `k`, all
-use Prim.Native.Nat.{◌-◌, ◌*◌, ◌≤◌, ◌<◌}
+use Prim.Native.Nat.{◌-◌}
 use native.Mathlib.Omega.{arith}
 use mathlib.Core.Path.{◌≡◌, refl, ap, sym, ◌∙◌}
-use lib.ListN.{length, get_or}
-use lib.Seq.{sets}
+use lib.ListN.{get_or}
 use borrow.Author.Rules.{rules}
-use Rattle.machine.specs.declared.Cpu.{Cpu}
 use Rattle.machine.specs.Words.{words_bytes}
 use Rattle.machine.specs.Execute.{controls_from}
 use Rattle.stores.proofs.Controls.{one_control_more}

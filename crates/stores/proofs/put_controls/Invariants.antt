@@ -1,14 +1,11 @@
 -- `stores::put_controls` meets its contract. The loop's invariant: with the registers that are left stored behind the first `k`, all
 use Prim.Native.Nat.{◌-◌, ◌*◌, ◌≤◌, ◌<◌}
-use native.Mathlib.Omega.{arith}
-use mathlib.Core.Path.{◌≡◌, refl, ap, sym, ◌∙◌}
-use lib.ListN.{length, get_or}
+use mathlib.Core.Path.{◌≡◌}
+use lib.ListN.{length}
 use lib.Seq.{sets}
-use borrow.Author.Rules.{rules}
 use Rattle.machine.specs.declared.Cpu.{Cpu}
 use Rattle.machine.specs.Words.{words_bytes}
 use Rattle.machine.specs.Execute.{controls_from}
-use Rattle.stores.proofs.Controls.{one_control_more}
 use Rattle.stores.proofs.put_controls.Given as goal
 
 abbrev pub invariant-loop-k : goal.invariant-loop-k

@@ -2,7 +2,6 @@
 use Prim.Native.Nat.{◌*◌}
 use native.Mathlib.Omega.{arith}
 use mathlib.Core.Path.{refl, ap}
-use borrow.Author.Rules.{rules}
 use Rattle.machine.specs.Words.{bits, words_bytes}
 use Rattle.machine.specs.Host.{host}
 use Rattle.machine.specs.Execute.{controls_from, store_control}

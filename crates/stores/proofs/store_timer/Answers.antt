@@ -1,7 +1,6 @@
 -- `stores::store_timer` meets its contract.
 use native.Mathlib.Omega.{arith}
 use mathlib.Core.Path.{refl}
-use borrow.Author.Rules.{rules}
 use Rattle.machine.specs.Host.{host}
 use Rattle.machine.specs.Execute.{store_timer}
 use Rattle.stores.proofs.Storing.{does, storing_none, storing_all}

@@ -1,5 +1,4 @@
 -- `streaks::paced_streak` meets its contract.
-use borrow.Author.Rules.{rules}
 use Rattle.streaks.proofs.Streaking.{course, none_streak}
 use Rattle.streaks.proofs.paced_streak.Goals as goal
 

@@ -1,5 +1,4 @@
 -- `writer::put_double_part` meets its contract. The double word, stored over the whole part, is all of it.
-use borrow.Author.Rules.{rules}
 use Rattle.machine.specs.Words.{double_bytes}
 use Rattle.writer.proofs.Parts.{sets_of_whole}
 use Rattle.writer.proofs.put_double_part.Goals as goal

@@ -1,7 +1,6 @@
 -- `writer::put_operand` meets its contract. The bytes at the second place are those behind the first `count`.
 use mathlib.Core.Path.{sym}
 use lib.Seq.{length-take-le}
-use borrow.Author.Rules.{rules}
 use Rattle.writer.proofs.Parts.{part_to_end}
 use Rattle.writer.proofs.put_operand.Goals as goal
 

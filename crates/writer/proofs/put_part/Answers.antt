@@ -1,5 +1,4 @@
 -- `writer::put_part` meets its contract. The bytes, in the part's place, are the run of stores.
-use borrow.Author.Rules.{rules}
 use Rattle.writer.proofs.Parts.{sets_of_part}
 use Rattle.writer.proofs.put_part.Goals as goal
 

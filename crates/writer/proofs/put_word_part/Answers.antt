@@ -1,5 +1,4 @@
 -- `writer::put_word_part` meets its contract. The word, stored over the whole part, is all of it.
-use borrow.Author.Rules.{rules}
 use Rattle.machine.specs.Words.{word_bytes}
 use Rattle.writer.proofs.Parts.{sets_of_whole}
 use Rattle.writer.proofs.put_word_part.Goals as goal
