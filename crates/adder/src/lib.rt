@@ -8,10 +8,10 @@ ghost use Rattle.adder.specs.Adding.{added};
 
 use machine::Cpu;
 
-// 2^31, the excess of a signed word, and 2^32, the number of words.
-const SIGN: u64 = 2147483648;
+// The excess of a signed word, and the number of words.
+const SIGN: u64 = 1 << 31;
 
-const WORDS: u64 = 4294967296;
+const WORDS: u64 = 1 << 32;
 
 // What an addition or a subtraction of two words gives.
 #[derive(Clone, Copy)]
@@ -33,20 +33,7 @@ fn sum_overflows(a: u32, b: u32) -> bool
     ensures { result ≡ sum_overflows a b }
 {
     let sum = excess(a) + excess(b);
-    if sum < SIGN {
-        return true;
-    }
-    if sum >= WORDS + SIGN {
-        return true;
-    }
-    false
-}
-
-// The first word less the second, cut to a word.
-fn difference(a: u32, b: u32) -> u32
-    ensures { result ≡ difference_of a b }
-{
-    std::num::wrapping_sub_u32(a, b)
+    sum < SIGN || sum >= WORDS + SIGN
 }
 
 // The signed difference is below -2^31 or above 2^31 - 1.
@@ -55,98 +42,62 @@ fn difference_overflows(a: u32, b: u32) -> bool
 {
     let left = excess(a);
     let right = excess(b);
-    if left + SIGN < right {
-        return true;
-    }
-    if right + SIGN <= left {
-        return true;
-    }
-    false
+    left + SIGN < right || right + SIGN <= left
 }
 
 // The condition code: 0 zero, 1 below zero, 2 above zero, 3 overflow.
+#[tactic(auto, unfolding(machine::specs::Execute::sum_code))]
 fn sum_code(value: u32, overflow: bool) -> u32
     ensures { result ≡ sum_code value overflow }
 {
     if overflow {
-        return 3;
+        3
+    } else if value == 0 {
+        0
+    } else if value >> 31 == 1 {
+        1
+    } else {
+        2
     }
-    if value == 0 {
-        return 0;
+}
+
+// A value with its condition code.
+fn coded(value: u32, overflow: bool) -> Sum
+    ensures { (result.value ≡ value) × (result.overflow ≡ overflow) × (result.code ≡ sum_code value overflow) }
+{
+    Sum {
+        value,
+        code: sum_code(value, overflow),
+        overflow,
     }
-    if value / 2147483648 % 2 == 1 {
-        return 1;
-    }
-    2
 }
 
 // ADD: the sum of two words.
 pub fn add(a: u32, b: u32) -> Sum
     ensures { (result.value ≡ sum_of a b) × (result.overflow ≡ sum_overflows a b) × (result.code ≡ sum_code (sum_of a b) (sum_overflows a b)) }
 {
-    let value = std::num::wrapping_add_u32(a, b);
-    let overflow = sum_overflows(a, b);
-    Sum {
-        value,
-        code: sum_code(value, overflow),
-        overflow,
-    }
+    coded(a.wrapping_add(b), sum_overflows(a, b))
 }
 
 // SUBTRACT: the first word less the second.
 pub fn subtract(a: u32, b: u32) -> Sum
     ensures { (result.value ≡ difference_of a b) × (result.overflow ≡ difference_overflows a b) × (result.code ≡ sum_code (difference_of a b) (difference_overflows a b)) }
 {
-    let value = difference(a, b);
-    let overflow = difference_overflows(a, b);
-    Sum {
-        value,
-        code: sum_code(value, overflow),
-        overflow,
-    }
+    coded(a.wrapping_sub(b), difference_overflows(a, b))
 }
 
-// A sum put into general register i, and its condition code into the PSW.
-fn with_sum(cpu: Cpu, i: u32, sum: Sum) -> Cpu
-    requires { (i < 16) × (sum.code ≡ sum_code sum.value sum.overflow) }
-    ensures { result ≡ with_sum cpu i sum.value sum.overflow }
+// General register j added to general register i: value and condition code are put into the state together.
+pub fn added(cpu: Cpu, i: u32, j: u32) -> Cpu
+    requires { (i < 16) × (j < 16) }
+    ensures { result ≡ added cpu i j }
 {
     let mut general = cpu.general;
+    let sum = add(general.words[i as usize], general.words[j as usize]);
     general.words[i as usize] = sum.value;
-    let psw = cpu.psw;
-    let coded = cpu::with_condition_code(psw, sum.code);
-    let mut next = cpu;
-    next.psw = coded;
-    next.general = general;
-    next
-}
-
-// General register j added to general register i.
-fn add_registers(cpu: Cpu, i: u32, j: u32) -> Cpu
-    requires { (i < 16) × (j < 16) }
-    ensures { result ≡ added cpu i j }
-{
-    let general = cpu.general;
-    with_sum(
-        cpu,
-        i,
-        add(general.words[i as usize], general.words[j as usize]),
-    )
-}
-
-// The same on a state that is lent.
-fn add_in_place(cpu: &mut Cpu, i: u32, j: u32)
-    requires { (i < 16) × (j < 16) }
-    ensures { cpu.new ≡ added cpu.old i j }
-{
-    *cpu = add_registers(*cpu, i, j);
-}
-
-// The same on a state that is handed in and back.
-pub fn added(mut cpu: Cpu, i: u32, j: u32) -> Cpu
-    requires { (i < 16) × (j < 16) }
-    ensures { result ≡ added cpu i j }
-{
-    add_in_place(&mut cpu, i, j);
-    cpu
+    let psw = cpu::with_condition_code(cpu.psw, sum.code);
+    Cpu {
+        psw,
+        general,
+        ..cpu
+    }
 }

@@ -1,5 +1,6 @@
 -- What the numbers of a lookup say.
 -- Assumes nothing.
+use Rattle.std.specs.Prelude.{Err, Ok}
 use Prim.Native.Nat.{ℕ, ◌+◌, ◌*◌, ◌/◌, ◌%◌, ◌^◌, ◌≤◌, ◌<◌}
 use native.Mathlib.Omega.{arith}
 use mathlib.Core.Path.{◌≡◌, refl, sym, ap, ◌∙◌}
@@ -10,24 +11,20 @@ use lib.ListN.{length}
 use borrow.Author.Tests.{lt-ltb, le-ltb, le-leb, ltb-true, ltb-false, eq-eqb, ne_eqb}
 use Rattle.machine.specs.declared.Cpu.{Cpu}
 use Rattle.machine.specs.declared.Guest.{Guest}
-use Rattle.machine.specs.declared.TableEntry.TheVariants.{Word, Unread}
-use Rattle.machine.specs.declared.Walk.{Walk}
-use Rattle.machine.specs.declared.Walk.TheVariants.{Page, Failed}
 use Rattle.machine.specs.Words.{word_at}
 use Rattle.machine.specs.Entry.{extent_bytes}
 use Rattle.machine.specs.Failures.{addressing, host_fault, walk_exception}
-use Rattle.machine.specs.Walk.{frame_of, page_protected}
+use Rattle.machine.specs.Walk.{frame_of, page_protected, Walk, at_frame}
 use Rattle.machine.specs.Host.{host, host_virtual, in_frame, host_page, backing, view}
 use Rattle.machine.specs.Addresses.{prefixed, guest_entry}
 use Rattle.laws.proofs.Pages.{prefixed_keeps_offset, backing-in_storage}
 use Rattle.storage.specs.Steps.{inside}
 use Rattle.storage.specs.Found.{page_found}
 use Rattle.storage.proofs.Found.{found-page, found-stopped}
-use Rattle.prefixing.specs.declared.Space.{Space}
-use Rattle.prefixing.specs.Prefixing.{Sees, Fits, exception_number, virtual_in}
-use Rattle.address.specs.declared.Place.TheVariants.{At, Denied}
+use Rattle.prefixing.specs.declared.space.Space.{Space}
+use Rattle.prefixing.specs.Prefixing.{Sees, exception_number, virtual_in}
 use Rattle.address.specs.Touching.{entry_behind}
-use Rattle.address.specs.Locating.{fault_number, failure_in, entry_in, page_in, place_in}
+use Rattle.address.specs.Locating.{fault_number, failure_in, page_in, place_in}
 use Rattle.address.proofs.Touches.{guest-entry-behind}
 
 -- a word whose bit 0 is zero has 31 bits
@@ -40,28 +37,24 @@ frame_whole w small zero =
 
 -- from 2^32 on a number says a failure
 module _ (a w : ℕ) (high : 2 ^ 32 ≤ w) where
-  pub failed_entry : entry_in a w ≡ Unread (failure_in a w)
-  unfolding entry_in
-  failed_entry = rw (le-ltb _ _ high)
-
-  pub failed_page : page_in a w ≡ Failed (failure_in a w)
+  pub failed_page : page_in a w ≡ Err (failure_in a w)
   unfolding page_in
   failed_page = rw (le-ltb _ _ high)
 
-  pub failed_place : place_in a w ≡ Denied (failure_in a w)
+  pub failed_place : place_in a w ≡ Err (failure_in a w)
   unfolding place_in
   failed_place = rw (le-ltb _ _ high)
 
-pub good-entry : (a w : ℕ) → w < 2 ^ 32 → entry_in a w ≡ Word w
-unfolding entry_in
-good-entry a w low = rw (lt-ltb _ _ low)
+pub good-place : (a w : ℕ) → w < 2 ^ 32 → place_in a w ≡ Ok w
+unfolding place_in
+good-place a w low = rw (lt-ltb _ _ low)
 
-pub good-page : (a w : ℕ) → w < 2 ^ 32 → page_in a w ≡ Page (w / 4096) (page_protected w)
+pub good-page : (a w : ℕ) → w < 2 ^ 32 → page_in a w ≡ at_frame (w / 4096) (page_protected w)
 unfolding page_in
 good-page a w low = rw (lt-ltb _ _ low)
 
 -- with DAT off
-pub plain_page : (a : ℕ) → a < 2 ^ 32 → page_in a (a / 4096 * 4096) ≡ Page (a / 4096) false
+pub plain_page : (a : ℕ) → a < 2 ^ 32 → page_in a (a / 4096 * 4096) ≡ at_frame (a / 4096) false
 plain_page a small =
     let own : a / 4096 * 4096 / 4096 ≡ a / 4096 = omega arith in
     let even : a / 4096 * 4096 / 512 % 2 ≡ 1 → ⊥ = λ e. omega arith in
@@ -76,12 +69,12 @@ failure_fault a v code small =
     rw (eq-eqb _ _ odd, own-address, own_code)
 
 -- a byte that is reached
-pub found-place : (g : Guest) (absolute frame v a : ℕ) → v ≡ host_virtual g absolute → frame < 524288 → At (in_frame frame absolute) ≡ place_in a (frame * 4096 + v % 4096)
+pub found-place : (g : Guest) (absolute frame v a : ℕ) → v ≡ host_virtual g absolute → frame < 524288 → Ok (in_frame frame absolute) ≡ place_in a (frame * 4096 + v % 4096)
 unfolding place_in
 found-place g absolute frame v a is few =
     let small : frame * 4096 + v % 4096 < 2 ^ 32 = omega arith in
     let same : in_frame frame absolute ≡ frame * 4096 + v % 4096 = omega arith in
-    rw (lt-ltb _ _ small) (ap At same)
+    rw (lt-ltb _ _ small) (ap Ok same)
 
 -- The host page behind a guest absolute address, by its host virtual address as a number and by what was found for that.
 module _ (g : Guest) (d : ℕ) (s : List ℕ) (absolute v : ℕ) (space : host_virtual g (extent_bytes g) ≤ 2 ^ 31) (is : v ≡ virtual_in g absolute) where
@@ -102,7 +95,7 @@ module _ (g : Guest) (d : ℕ) (s : List ℕ) (absolute v : ℕ) (space : host_v
   pub outside_extent : 2 ^ 32 ≤ v → extent_bytes g ≤ absolute
   outside_extent high = by_extent (λ below own. absurd (omega arith)) (λ past own. past)
 
-  pub behind-outside : 2 ^ 32 ≤ v → (a : ℕ) → backing g (host d s []) absolute ≡ Failed (failure_in a v)
+  pub behind-outside : 2 ^ 32 ≤ v → (a : ℕ) → backing g (host d s []) absolute ≡ Err (failure_in a v)
   unfolding backing failure_in walk_exception
   behind-outside high a = by_extent (λ below own. absurd (omega arith)) (λ past own. rw (le-ltb _ _ past, own))
 
@@ -111,31 +104,31 @@ module _ (g : Guest) (d : ℕ) (s : List ℕ) (absolute v : ℕ) (space : host_v
   behind-inside low = by_extent (λ below own. rw (lt-ltb _ _ below, own)) (λ past own. absurd (omega arith))
 
   module _ (low : v < 2 ^ 32) (p : ℕ) (found : host_page (host d s []) v ≡ page_found v p) where
-    pub behind-found : p < 2 ^ 32 → backing g (host d s []) absolute ≡ Page (frame_of p) (page_protected p)
+    pub behind-found : p < 2 ^ 32 → backing g (host d s []) absolute ≡ at_frame (frame_of p) (page_protected p)
     behind-found small = behind-inside low ∙ found-page d s v p found small
 
-    pub behind-stopped : 2 ^ 32 ≤ p → (a : ℕ) → backing g (host d s []) absolute ≡ Failed (failure_in a (fault_number v (p % 2 ^ 32)))
-    behind-stopped high a = behind-inside low ∙ found-stopped d s v p found high ∙ ap Failed (sym (failure_fault a v _ low))
+    pub behind-stopped : 2 ^ 32 ≤ p → (a : ℕ) → backing g (host d s []) absolute ≡ Err (failure_in a (fault_number v (p % 2 ^ 32)))
+    behind-stopped high a = behind-inside low ∙ found-stopped d s v p found high ∙ ap Err (sym (failure_fault a v _ low))
 
-pub sees_bound : (x : Space) (g : Guest) (c : Cpu) → Fits x → Sees x g c → host_virtual g (extent_bytes g) ≤ 2 ^ 31
-sees_bound x g c fits sees = omega arith
+pub sees_bound : (x : Space) (g : Guest) (c : Cpu) → Sees x g c → host_virtual g (extent_bytes g) ≤ 2 ^ 31
+sees_bound x g c sees = omega (arith, x.below)
 
 -- The guest table entry at a guest real address, by the same.
 module _ (g : Guest) (d : ℕ) (s k : List ℕ) (real v : ℕ) (aligned : real % 4 ≡ 0) (space : host_virtual g (extent_bytes g) ≤ 2 ^ 31) (is : v ≡ virtual_in g (prefixed g real)) where
   by_backing : {w : Walk} → backing g (host d s []) (prefixed g real) ≡ w → guest_entry g (view g (host d s k)) real ≡ entry_behind s (prefixed g real) w
   by_backing e = guest-entry-behind g d s k real aligned ∙ ap (entry_behind s (prefixed g real)) e
 
-  pub entry-outside : 2 ^ 32 ≤ v → (a : ℕ) → guest_entry g (view g (host d s k)) real ≡ Unread (failure_in a v)
+  pub entry-outside : 2 ^ 32 ≤ v → (a : ℕ) → guest_entry g (view g (host d s k)) real ≡ Err (failure_in a v)
   unfolding entry_behind
   entry-outside high a = by_backing (behind-outside g d s _ v space is high a)
 
   module _ (low : v < 2 ^ 32) (p : ℕ) (found : host_page (host d s []) v ≡ page_found v p) where
-    pub entry-stopped : 2 ^ 32 ≤ p → (a : ℕ) → guest_entry g (view g (host d s k)) real ≡ Unread (failure_in a (fault_number v (p % 2 ^ 32)))
+    pub entry-stopped : 2 ^ 32 ≤ p → (a : ℕ) → guest_entry g (view g (host d s k)) real ≡ Err (failure_in a (fault_number v (p % 2 ^ 32)))
     unfolding entry_behind
     entry-stopped high a = by_backing (behind-stopped g d s _ v space is low p found high a)
 
     pub entry_found : p < 2 ^ 32 → (word : ℕ) → word ≡ cond (inside s (in_frame (frame_of p) v)) (word_at s (in_frame (frame_of p) v)) v
-        → guest_entry g (view g (host d s k)) real ≡ Word word
+        → guest_entry g (view g (host d s k)) real ≡ Ok word
     unfolding entry_behind
     entry_found small word read =
         let page = behind-found g d s _ v space is low p found small in
@@ -144,4 +137,4 @@ module _ (g : Guest) (d : ℕ) (s k : List ℕ) (real v : ℕ) (aligned : real %
         let kept = prefixed_keeps_offset g real in
         let same : in_frame (frame_of p) (prefixed g real) ≡ in_frame (frame_of p) v = omega arith in
         let there : in_frame (frame_of p) v + 4 ≤ length s = omega arith in
-        by_backing page ∙ ap Word (ap (word_at s) same ∙ sym (read ∙ rw (le-leb _ _ there)))
+        by_backing page ∙ ap Ok (ap (word_at s) same ∙ sym (read ∙ rw (le-leb _ _ there)))

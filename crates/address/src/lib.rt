@@ -8,26 +8,22 @@ ghost use Rattle.machine.specs.Words.{bits, bit, word_at};
 ghost use Rattle.machine.specs.Refusals.{frames_of};
 ghost use Rattle.machine.specs.Failures.{is_translation, exception_of, walk_exception};
 ghost use Rattle.machine.specs.Psw.{access_key, wrap, control};
-ghost use Rattle.machine.specs.Walk.{page_index, frame_of, page_protected, walk_page};
+ghost use Rattle.machine.specs.Walk.{page_index, frame_of, page_protected, walk_page, at_frame};
 ghost use Rattle.machine.specs.Host.{host, host_virtual, in_frame, view};
-ghost use Rattle.machine.specs.Addresses.{guest_entry, real_page, low_protected};
+ghost use Rattle.machine.specs.Addresses.{guest_entry, real_page, key_protects, low_protected};
 ghost use Rattle.storage.specs.Entered.{Entered};
 ghost use Rattle.storage.specs.Steps.{read_through, table_leads, segment_leads, inside};
 ghost use Rattle.storage.specs.Found.{Serves};
-ghost use Rattle.prefixing.specs.Prefixing.{Sees, Fits};
+ghost use Rattle.prefixing.specs.Prefixing.{Sees};
 ghost use Rattle.address.specs.Touching.{seen, settled, guest_protects, touched, touch_of};
-ghost use Rattle.address.specs.Locating.{fault_number, failure_in, entry_in, page_in, place_in};
+ghost use Rattle.address.specs.Locating.{fault_number, failure_in, page_in, place_in};
 
-use machine::{Failure, Guest, Psw, Registers, TableEntry, Walk};
+use machine::{Failure, Guest, Psw, Registers};
 use prefixing::Space;
 use storage::Segment;
 
 // Where a byte stands in host storage, or why it cannot be reached.
-#[derive(Clone, Copy)]
-pub enum Place {
-    At(u32),
-    Denied(Failure),
-}
+pub type Place = Result<u32, Failure>;
 
 const PROTECTION: u64 = 4;
 
@@ -40,16 +36,6 @@ const SPECIFICATION: u64 = 0x12;
 // Numbers from here on say a failure.
 const STOPPED: u64 = 4294967296;
 
-// Both hold.
-fn both(x: bool, y: bool) -> bool
-    ensures { result ≡ (x && y) }
-{
-    if x {
-        return y;
-    }
-    false
-}
-
 // A host fault of a host virtual address as a number.
 fn faulted(code: u64, v: u32) -> u64
     requires { code < 32 }
@@ -60,17 +46,18 @@ fn faulted(code: u64, v: u32) -> u64
 
 // Where the guest's segment entry of a logical address stands, by CR1.
 pub fn by_table(cr1: u32, a: u32) -> u64
-    ensures { table_leads (walk_exception a) cr1 a ≡ entry_in a result }
+    ensures { table_leads (walk_exception a) cr1 a ≡ place_in a result }
 {
     if cr1 % 128 < a / 1048576 / 16 {
-        return prefixing::excepted(SEGMENT);
+        prefixing::excepted(SEGMENT)
+    } else {
+        (cr1 / 4096 % 524288 * 4096 + a / 1048576 * 4) as u64
     }
-    (cr1 / 4096 % 524288 * 4096 + a / 1048576 * 4) as u64
 }
 
 // Where the guest's page entry of a logical address stands, by its segment entry.
 pub fn by_segment(a: u32, word: u32) -> u64
-    ensures { segment_leads (walk_exception a) (page_index a) (TableEntry.Word word) ≡ entry_in a result }
+    ensures { segment_leads (walk_exception a) (page_index a) (Ok word) ≡ place_in a result }
 {
     if word / 32 % 2 == 1 {
         return prefixing::excepted(SEGMENT);
@@ -87,21 +74,15 @@ pub fn by_segment(a: u32, word: u32) -> u64
 
 // The real page of a guest page entry.
 pub fn by_page(word: u32) -> u64
-    ensures { (a : ℕ) → walk_page (walk_exception a) (TableEntry.Word word) ≡ page_in a result }
+    ensures { (a : ℕ) → walk_page (walk_exception a) (Ok word) ≡ page_in a result }
 {
     if word / 1024 % 2 == 1 {
-        return prefixing::excepted(PAGE);
+        prefixing::excepted(PAGE)
+    } else if storage::page_malformed(word) {
+        prefixing::excepted(SPECIFICATION)
+    } else {
+        word as u64
     }
-    if word / 2147483648 % 2 == 1 {
-        return prefixing::excepted(SPECIFICATION);
-    }
-    if word / 2048 % 2 == 1 {
-        return prefixing::excepted(SPECIFICATION);
-    }
-    if word / 256 % 2 == 1 {
-        return prefixing::excepted(SPECIFICATION);
-    }
-    word as u64
 }
 
 // The guest table entry at a host virtual address, in the host page that was found for it.
@@ -130,7 +111,7 @@ fn without_segment(page: u64) -> Real
 
 // The real page by the guest page entry at a guest real address.
 fn from_page_entry(storage: &[u8], designation: u32, space: Space, real: u32, kept: Segment) -> Real
-    requires { Fits space × (real % 4 ≡ 0) × Serves designation storage.now kept.index kept.found }
+    requires { (real % 4 ≡ 0) × Serves designation storage.now kept.index kept.found }
     ensures serves { Serves designation storage.now result.kept.index result.kept.found }
     ensures real_value { (g : Guest) (c : Cpu) → Sees space g c → (k : List ℕ) (a : ℕ)
         → walk_page (walk_exception a) (guest_entry g (view g (host designation storage.now k)) real) ≡ page_in a result.page }
@@ -153,7 +134,7 @@ fn from_page_entry(storage: &[u8], designation: u32, space: Space, real: u32, ke
 
 // The real page of a logical address by the guest segment entry at a guest real address.
 fn from_segment_entry(storage: &[u8], designation: u32, space: Space, a: u32, real: u32) -> Real
-    requires { Fits space × (real % 4 ≡ 0) }
+    requires { real % 4 ≡ 0 }
     ensures serves { Serves designation storage.now result.kept.index result.kept.found }
     ensures real_value { (g : Guest) (c : Cpu) → Sees space g c → (k : List ℕ)
         → walk_page (walk_exception a) (read_through (guest_entry g (view g (host designation storage.now k)))
@@ -185,7 +166,6 @@ pub fn dat_on(left: u32) -> bool
 
 // The real page of a logical address.
 fn real_page(storage: &[u8], designation: u32, space: Space, a: u32) -> Real
-    requires { Fits space }
     ensures serves { Serves designation storage.now result.kept.index result.kept.found }
     ensures a_value { (g : Guest) (c : Cpu) → Sees space g c → (k : List ℕ)
         → real_page g (view g (host designation storage.now k)) c a ≡ page_in a result.page }
@@ -207,40 +187,35 @@ fn real_page(storage: &[u8], designation: u32, space: Space, a: u32) -> Real
 fn low_protected(cr0: u32, a: u32) -> bool
     ensures { (c : Cpu) → cr0 ≡ control c 0 → result ≡ low_protected c a }
 {
-    both(a < 512, cr0 / 268435456 % 2 == 1)
+    a < 512 && cr0 / 268435456 % 2 == 1
+}
+
+// Key protection, by the byte's key.
+fn key_protects(left: u32, store: bool, key: u8) -> bool
+    ensures { (c : Cpu) → bits 32 8 11 left ≡ access_key c → result ≡ key_protects c store key }
+{
+    let access = left / 1048576 % 16;
+    access != 0 && access != key as u32 / 16 % 16 && (store || key / 8 % 2 == 1)
 }
 
 // Guest page protection, then key protection, by the byte's key.
 fn guest_protects(left: u32, store: bool, protected: bool, key: u8) -> bool
     ensures { (c : Cpu) → bits 32 8 11 left ≡ access_key c → result ≡ guest_protects c store protected key }
 {
-    if both(store, protected) {
-        return true;
-    }
-    let access = left / 1048576 % 16;
-    if access == 0 {
-        return false;
-    }
-    if access == key as u32 / 16 % 16 {
-        return false;
-    }
-    if store {
-        return true;
-    }
-    key / 8 % 2 == 1
+    store && protected || key_protects(left, store, key)
 }
 
 // The last tests of a byte at a host virtual address, by the host page that was found for it.
 fn settle(keys: &[u8], left: u32, store: bool, protected: bool, v: u32, page: u64) -> u64
     requires { frame_of page < length keys.now }
     ensures { (g : Guest) (c : Cpu) (absolute a : ℕ) → bits 32 8 11 left ≡ access_key c → v ≡ host_virtual g absolute
-        → settled g keys.now store (guest_protects c store protected) absolute (Walk.Page (frame_of page) (page_protected page)) ≡ place_in a result }
+        → settled g keys.now store (guest_protects c store protected) absolute (at_frame (frame_of page) (page_protected page)) ≡ place_in a result }
 {
     let frame = (page / 4096 % 524288) as u32;
     if guest_protects(left, store, protected, keys[frame as usize]) {
         return prefixing::excepted(PROTECTION);
     }
-    if both(store, page / 512 % 2 == 1) {
+    if store && page / 512 % 2 == 1 {
         return faulted(PROTECTION, v);
     }
     (frame * 4096 + v % 4096) as u64
@@ -256,7 +231,7 @@ fn in_page(
     a: u32,
     real: Real,
 ) -> u64
-    requires { Fits space × (frames_of storage.now ≤ length keys.now) × Serves designation storage.now real.kept.index real.kept.found }
+    requires { (frames_of storage.now ≤ length keys.now) × Serves designation storage.now real.kept.index real.kept.found }
     ensures { (g : Guest) (c : Cpu) → Sees space g c
         → touched g (host designation storage.now keys.now) c store a (page_in a real.page) ≡ place_in a result }
 {
@@ -280,11 +255,11 @@ fn in_page(
 
 // Where the byte at a wrapped logical address stands in host storage, or why it cannot be reached, as one number.
 pub fn locate(storage: &[u8], keys: &[u8], space: Space, store: bool, a: u32) -> u64
-    requires { Fits space × (frames_of storage.now ≤ length keys.now) }
+    requires { frames_of storage.now ≤ length keys.now }
     ensures { (g : Guest) (c : Cpu) → Sees space g c → touch_of g (host space.designation storage.now keys.now) c store a ≡ place_in a result }
 {
     let designation = space.designation;
-    if both(store, low_protected(space.cr0, a)) {
+    if store && low_protected(space.cr0, a) {
         return prefixing::excepted(PROTECTION);
     }
     let real = real_page(storage, designation, space, a);
@@ -306,31 +281,28 @@ pub fn exception_of(code: u32) -> Failure
 fn exception_address(a: u32, code: u32) -> u32
     ensures { result ≡ cond (is_translation code) (a / 4096 * 4096) 0 }
 {
-    if code as u64 == SEGMENT {
-        return a / 4096 * 4096;
+    if code as u64 == SEGMENT || code as u64 == PAGE {
+        a / 4096 * 4096
+    } else {
+        0
     }
-    if code as u64 == PAGE {
-        return a / 4096 * 4096;
-    }
-    0
 }
 
 // The failure that a number says of a logical address.
 pub fn failure_of(a: u32, w: u64) -> Failure
     ensures { result ≡ failure_in a w }
 {
+    let host = w / STOPPED % 2 == 1;
     let code = (w / 8589934592) as u32;
-    if w / STOPPED % 2 == 1 {
-        return Failure {
-            host: true,
-            code,
-            address: (w % STOPPED) as u32,
-        };
-    }
+    let address = if host {
+        (w % STOPPED) as u32
+    } else {
+        exception_address(a, code)
+    };
     Failure {
-        host: false,
+        host,
         code,
-        address: exception_address(a, code),
+        address,
     }
 }
 
@@ -339,9 +311,10 @@ pub fn place_of(a: u32, w: u64) -> Place
     ensures { result ≡ place_in a w }
 {
     if w < STOPPED {
-        return Place::At(w as u32);
+        Ok(w as u32)
+    } else {
+        Err(failure_of(a, w))
     }
-    Place::Denied(failure_of(a, w))
 }
 
 // Where the byte at a wrapped logical address stands, for a guest, a PSW and control registers.
@@ -368,11 +341,9 @@ pub fn touch(
 pub fn wrapped(psw: Psw, a: u32) -> u32
     ensures { (control : Registers) → result ≡ wrap (seen psw control) a }
 {
-    if psw.right / 2147483648 % 2 != 1 {
-        return a % 16777216;
+    if psw.right / 2147483648 % 2 != 1 || psw.system370 {
+        a % 16777216
+    } else {
+        a % 2147483648
     }
-    if psw.system370 {
-        return a % 16777216;
-    }
-    a % 2147483648
 }

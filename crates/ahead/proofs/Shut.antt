@@ -1,5 +1,6 @@
 -- While the interval timer's word cannot be stored into, no interruption completes: the old PSW of each stands on the same page.
 -- Assumes nothing.
+use Rattle.std.specs.Prelude.{Err, Ok}
 use Prim.Native.Nat.{ℕ, zero, suc, ◌+◌, ◌*◌, ◌%◌, ◌<◌}
 use native.Mathlib.Omega.{arith}
 use mathlib.Core.Path.{◌≡◌, refl, ap, sym, ◌∙◌}
@@ -14,8 +15,6 @@ use Rattle.machine.specs.declared.Failure.{Failure}
 use Rattle.machine.specs.declared.Guest.{Guest}
 use Rattle.machine.specs.declared.Reason.{Reason}
 use Rattle.machine.specs.declared.Reason.TheVariants.{Program, Operation}
-use Rattle.machine.specs.declared.Walk.{Walk}
-use Rattle.machine.specs.declared.Walk.TheVariants.{Page, Failed}
 use Rattle.machine.specs.Words.{bit}
 use Rattle.machine.specs.Psw.{overflow_enabled}
 use Rattle.machine.specs.Failures.{operation, protection, host_fault}
@@ -29,6 +28,7 @@ use Rattle.laws.proofs.Pages.{backing-in_page}
 use Rattle.interval.specs.Standing.{word_address}
 use Rattle.interval.proofs.Behind.{prefixed-low, word_by, word_open}
 use Rattle.ahead.specs.Completing.{is_complete, all_reached, reaches, performs}
+use Rattle.machine.specs.Walk.{Walk, at_frame}
 
 no_stop : {R : Type 0} {f : Failure} {ls : List Located} → stopped f ≡ all ls → R
 no_stop e = let z : ◌≡◌ {A = ℕ} 0 1 = cc in absurd (omega arith)
@@ -65,10 +65,14 @@ module _ (g : Guest) (h : Host) {why : Failure} (shut : word_by g h ≡ stopped 
   unfolding real_access settle view cell_of
   low-denied a low = by_page (backing g h (g.prefix * 4096 + a)) refl
     where
+      by_protection : (frame : ℕ) (protected : Bool) → backing g h (g.prefix * 4096 + a) ≡ at_frame frame protected
+          → (f : Failure) × (real_access g (view g h) true a ≡ denied f)
+      by_protection frame true e = (host_fault (host_virtual g (g.prefix * 4096 + a)) protection, simp (prefixed-low g a low, e))
+      by_protection frame false e = no_stop (sym shut ∙ word_open g h (backing-in_page g h _ (word_address g) e (omega arith)))
+
       by_page : (w : Walk) → backing g h (g.prefix * 4096 + a) ≡ w → (f : Failure) × (real_access g (view g h) true a ≡ denied f)
-      by_page (Failed f) e = (f, simp (prefixed-low g a low, e))
-      by_page (Page frame true) e = (host_fault (host_virtual g (g.prefix * 4096 + a)) protection, simp (prefixed-low g a low, e))
-      by_page (Page frame false) e = no_stop (sym shut ∙ word_open g h (backing-in_page g h _ (word_address g) e (omega arith)))
+      by_page (Err f) e = (f, simp (prefixed-low g a low, e))
+      by_page (Ok page) e = by_protection page.frame page.protected e
 
   module _ (x : Progress) (of_guest : x.guest ≡ g) (of_view : x.view ≡ view g h) where
     pub interrupt_incomplete : (c : Cpu) (areas : Areas) (code : ℕ) (fields : List ℕ) → areas.old < 4096 → is_complete (interrupt x c areas code fields) ≡ false

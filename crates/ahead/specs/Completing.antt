@@ -12,8 +12,6 @@ use Rattle.machine.specs.Host.{Host, view}
 use Rattle.machine.specs.Addresses.{Accesses, all, stopped, real_access, access, accesses, span, up_from}
 use Rattle.machine.specs.Outcomes.{Outcome, completed, intercepted, faulted, Progress}
 use Rattle.machine.specs.Execute.{r1, r2, operand_address, indexed_address, sum_overflows, difference_overflows, range_count}
-use Rattle.operands.specs.declared.Operand.{Operand}
-use Rattle.operands.specs.declared.Operand.TheVariants.{Open, Shut}
 
 -- the outcome completes a unit
 unfoldable pub is_complete : Outcome → Bool
@@ -48,11 +46,6 @@ performs Spt x = reaches x false (operand_address x) 8
 performs Stpt x = reaches x true (operand_address x) 8
 performs Mandatory x = false
 performs Unassigned x = false
-
--- an operand, by where it stands
-unfoldable pub is_open : Operand → Bool
-is_open (Open p m q) = true
-is_open (Shut f) = false
 
 -- a unit in progress, as the code holds it
 pub record InHand (h : Host) (x : Progress) (g : Guest) (c : Cpu) (text : Text) : Type 0 where

@@ -11,24 +11,9 @@ ghost use Rattle.machine.specs.Addresses.{access, accesses, span};
 ghost use Rattle.machine.specs.Outcomes.{Progress};
 ghost use Rattle.machine.specs.Execute.{operand_address, indexed_address};
 ghost use Rattle.storage.specs.Entered.{Entered};
-ghost use Rattle.ahead.specs.Completing.{all_reached, reaches, performs, is_open, InHand};
+ghost use Rattle.ahead.specs.Completing.{all_reached, reaches, performs, InHand};
 
 use machine::{Class, Cpu, Guest, Psw, Text};
-use operands::Operand;
-
-// All bytes of the operand are reached.
-fn opens(operand: Operand) -> bool
-    ensures { result ≡ is_open operand }
-{
-    match operand {
-        Operand::Open {
-            first: _,
-            count: _,
-            second: _,
-        } => true,
-        Operand::Shut(_) => false,
-    }
-}
 
 // The operand of n bytes at a wrapped logical address is reached.
 fn reaches(
@@ -45,20 +30,18 @@ fn reaches(
     requires a_value { (wrap cpu a ≡ a) × (1 ≤ n) × (n ≤ 4096) }
     ensures { result ≡ all_reached (accesses (access guest (view guest (host designation storage.now keys.now)) cpu store) (span cpu a n)) }
 {
-    let psw = cpu.psw;
-    let control = cpu.control;
     let operand = operands::find_operand(
         storage,
         keys,
         designation,
         guest,
-        psw,
-        control,
+        cpu.psw,
+        cpu.control,
         store,
         a,
         n,
     );
-    opens(operand)
+    operand.is_ok()
 }
 
 // The operand D2(X2,B2) of four bytes is reached.
@@ -101,12 +84,7 @@ fn reaches_based(
 fn passes(psw: Psw, overflow: bool) -> bool
     ensures { (c : Cpu) → c.psw ≡ psw → result ≡ not (overflow && overflow_enabled c) }
 {
-    if overflow {
-        if cpu::overflow_enabled(psw) {
-            return false;
-        }
-    }
-    true
+    !(overflow && cpu::overflow_enabled(psw))
 }
 
 // AR completes.
@@ -132,6 +110,7 @@ fn subtracts(cpu: Cpu, text: Text) -> bool
 }
 
 // The instruction completes, its tests passed.
+#[tactic(auto, unfolding(crate::specs::Completing::performs))]
 pub fn performs(
     class: Class,
     storage: &[u8],
@@ -146,13 +125,9 @@ pub fn performs(
 {
     let n = 4 * cpu::range_count(text);
     match class {
-        Class::Lr => true,
+        Class::Lr | Class::Bcr | Class::La | Class::Bc => true,
         Class::Ar => adds(cpu, text),
         Class::Sr => subtracts(cpu, text),
-        Class::Bcr => true,
-        Class::Svc => false,
-        Class::La => true,
-        Class::Bc => true,
         Class::St => reaches_indexed(storage, keys, designation, guest, cpu, text, true),
         Class::L => reaches_indexed(storage, keys, designation, guest, cpu, text, false),
         Class::Lpsw => reaches_based(storage, keys, designation, guest, cpu, text, false, 8),
@@ -161,7 +136,6 @@ pub fn performs(
         Class::Stck => reaches_based(storage, keys, designation, guest, cpu, text, true, 8),
         Class::Spt => reaches_based(storage, keys, designation, guest, cpu, text, false, 8),
         Class::Stpt => reaches_based(storage, keys, designation, guest, cpu, text, true, 8),
-        Class::Mandatory => false,
-        Class::Unassigned => false,
+        Class::Svc | Class::Mandatory | Class::Unassigned => false,
     }
 }

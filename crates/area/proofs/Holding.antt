@@ -1,5 +1,6 @@
 -- What the kept place of the prefix page depends on, what is stored there, and how it is found.
 -- Assumes nothing.
+use Rattle.std.specs.Prelude.{Err}
 use Prim.Native.Nat.{ℕ, ◌+◌, ◌*◌, ◌/◌, ◌%◌, ◌≤◌, ◌<◌}
 use native.Mathlib.Omega.{arith}
 use mathlib.Core.Path.{◌≡◌, refl, sym, ap, ◌∙◌, subst}
@@ -13,7 +14,6 @@ use lib.Seq.{sets, length-sets}
 use Rattle.machine.specs.declared.Guest.{Guest}
 use Rattle.machine.specs.declared.Psw.{Psw}
 use Rattle.machine.specs.declared.Registers.{Registers}
-use Rattle.machine.specs.declared.Walk.TheVariants.{Page, Failed}
 use Rattle.machine.specs.Refusals.{frames_of}
 use Rattle.machine.specs.Entry.{extent_bytes}
 use Rattle.machine.specs.Failures.{addressing, exception_of}
@@ -27,6 +27,7 @@ use Rattle.guard.proofs.Guarded.{alike_narrower}
 use Rattle.blocks.proofs.Holding.{alike_same, alike_trans}
 use Rattle.pages.specs.Tabling.{Tables}
 use Rattle.area.specs.Keeping.{Placed, Area, InStorage}
+use Rattle.machine.specs.Walk.{at_frame}
 
 -- none is kept
 pub area_none : (guard : List ℕ) (g : Guest) (h : Host) (area : ℕ) → 2147483648 ≤ area → Area guard g h area
@@ -74,7 +75,7 @@ area_stored guard s bytes area i aligned clear fits inside =
 
 -- the prefix page as it stands now
 pub area_behind : (guard : List ℕ) (g : Guest) (h : Host) (area a : ℕ) → Placed area → Area guard g h area → a < 4096
-    → backing g h (g.prefix * 4096 + a) ≡ Page (area / 4096) false
+    → backing g h (g.prefix * 4096 + a) ≡ at_frame (area / 4096) false
 area_behind guard g h area a placed kept = kept.behind placed h.storage (alike_same guard h.storage) a
 
 pub in_storage_lem : {guard : List ℕ} {g : Guest} {h : Host} {area : ℕ} → Area guard g h area → InStorage h.storage area
@@ -103,7 +104,7 @@ none_kept g d s k guard kept = (
 
 -- The page that is found behind the prefix page.
 
-module _ (g : Guest) (d : ℕ) (s k : List ℕ) (frame : ℕ) (backed : backing g (host d s k) (g.prefix * 4096) ≡ Page frame false) where
+module _ (g : Guest) (d : ℕ) (s k : List ℕ) (frame : ℕ) (backed : backing g (host d s k) (g.prefix * 4096) ≡ at_frame frame false) where
   -- its frame has a key, and a number of 19 bits
   pub frame_small : frames_of s ≤ length k → (frame < length k) × (frame < 524288)
   frame_small each =
@@ -119,7 +120,7 @@ module _ (g : Guest) (d : ℕ) (s k : List ℕ) (frame : ℕ) (backed : backing 
       record {
         behind = λ _ t alike a small. rw whole
             (backing-in_page g (host d t k) (g.prefix * 4096) (g.prefix * 4096 + a)
-            (ap (λ w. cond (ltb (g.prefix * 4096) (extent_bytes g)) w (Failed (exception_of addressing))) (decides t k alike) ∙ backed)
+            (ap (λ w. cond (ltb (g.prefix * 4096) (extent_bytes g)) w (Err (exception_of addressing))) (decides t k alike) ∙ backed)
             (omega arith));
         aligned = λ _. omega arith;
         inside = λ _. backing-in_storage g (host d s k) (g.prefix * 4096) backed;

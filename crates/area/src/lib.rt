@@ -6,41 +6,35 @@ ghost use Rattle.machine.specs.declared.Psw.{Psw};
 ghost use Rattle.machine.specs.declared.Registers.{Registers};
 ghost use Rattle.machine.specs.Refusals.{frames_of};
 ghost use Rattle.machine.specs.Host.{Host, host, backing};
+ghost use Rattle.machine.specs.Walk.{at_frame};
 ghost use Rattle.storage.specs.Entered.{Entered};
 ghost use Rattle.guard.specs.Guarding.{Wider};
 ghost use Rattle.pages.specs.Tabling.{Tables};
 ghost use Rattle.area.specs.Keeping.{Area};
 
-use machine::{Guest, Walk};
+use machine::Guest;
 
 // No place is kept.
 pub const NO_AREA: u32 = 2147483648;
-
-// A table has 32 words: of one by value that is known, of one behind a reference it is not.
-fn counted(kept: [u32; 32])
-    ensures { length kept ≡ 32 }
-{}
 
 // Keeps the frame behind the prefix page, where its marks are made and the guard does not name it.
 fn keep_frame(
     storage: &[u8],
     keys: &[u8],
-    guard: &mut [u8],
+    guard: &mut [u8; 64],
     kept: &mut [u32; 32],
     designation: u32,
     guest: Guest,
     frame: u32,
 ) -> u32
-    requires { Entered guest × (frames_of storage.now ≤ length keys.now) × (length guard.old ≡ 64)
-        × (backing guest (host designation storage.now keys.now) (guest.prefix * 4096) ≡ Walk.Page frame false) }
+    requires { Entered guest × (frames_of storage.now ≤ length keys.now)
+        × (backing guest (host designation storage.now keys.now) (guest.prefix * 4096) ≡ at_frame frame false) }
     ensures tables { (psw : Psw) (control : Registers) → Tables designation guest psw control storage.now keys.now guard.old kept.old guard.new kept.new }
     ensures area { Area guard.new guest (host designation storage.now keys.now) result }
 {
-    let key = keys[frame as usize];
-    if key / 2 % 4 != 3 {
+    if keys[frame as usize] / 2 % 4 != 3 {
         return NO_AREA;
     }
-    counted(*kept);
     guard::name_host(
         storage,
         guard,
@@ -58,12 +52,12 @@ fn keep_frame(
 pub fn keep_area(
     storage: &[u8],
     keys: &[u8],
-    guard: &mut [u8],
+    guard: &mut [u8; 64],
     kept: &mut [u32; 32],
     designation: u32,
     guest: Guest,
 ) -> u32
-    requires { Entered guest × (frames_of storage.now ≤ length keys.now) × (length guard.old ≡ 64) }
+    requires { Entered guest × (frames_of storage.now ≤ length keys.now) }
     ensures tables { (psw : Psw) (control : Registers) → Tables designation guest psw control storage.now keys.now guard.old kept.old guard.new kept.new }
     ensures area { Area guard.new guest (host designation storage.now keys.now) result }
 {
@@ -74,26 +68,26 @@ pub fn keep_area(
         guest.extent,
         guest.prefix * 4096,
     ) {
-        Walk::Failed(_) => NO_AREA,
-        Walk::Page { frame, protected } => {
-            if protected {
-                return NO_AREA;
-            }
-            keep_frame(storage, keys, guard, kept, designation, guest, frame)
-        }
+        Ok(page) if !page.protected => keep_frame(
+            storage,
+            keys,
+            guard,
+            kept,
+            designation,
+            guest,
+            page.frame,
+        ),
+        _ => NO_AREA,
     }
 }
 
 // The place as it is kept where the guard has come to name more frames.
-pub fn spared(guard: &[u8], area: u32) -> u32
-    requires { length guard.now ≡ 64 }
+pub fn spared(guard: &[u8; 64], area: u32) -> u32
     ensures { (before : List ℕ) (g : Guest) (h : Host) → Wider before guard.now → Area before g h area → Area guard.now g h result }
 {
-    if area >= NO_AREA {
-        return NO_AREA;
+    if area >= NO_AREA || guard[(area / 4096 % 64) as usize] != 0 {
+        NO_AREA
+    } else {
+        area
     }
-    if guard[(area / 4096 % 64) as usize] != 0 {
-        return NO_AREA;
-    }
-    area
 }

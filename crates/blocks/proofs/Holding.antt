@@ -1,5 +1,6 @@
 -- What blocks that are kept depend on: the frames that the guard names, and the bits of the CPU that guard accesses.
 -- Assumes nothing.
+use Rattle.std.specs.Prelude.{Err, Ok}
 use Prim.Native.Nat.{ℕ, ◌+◌, ◌*◌, ◌/◌, ◌%◌, ◌≤◌, ◌<◌}
 use native.Mathlib.Omega.{arith}
 use mathlib.Core.Path.{◌≡◌, refl, sym, ap, ◌∙◌, subst}
@@ -13,8 +14,6 @@ use lib.Seq.{sets, length-sets, set-get_or}
 use Rattle.machine.specs.declared.Cpu.{Cpu}
 use Rattle.machine.specs.declared.Failure.{Failure}
 use Rattle.machine.specs.declared.Guest.{Guest}
-use Rattle.machine.specs.declared.Walk.{Walk}
-use Rattle.machine.specs.declared.Walk.TheVariants.{Page, Failed}
 use Rattle.machine.specs.Refusals.{frames_of}
 use Rattle.machine.specs.Psw.{dat_on, access_key, control}
 use Rattle.machine.specs.Failures.{protection, exception_of}
@@ -22,14 +21,13 @@ use Rattle.machine.specs.Host.{Host, host, in_frame, host_page, backing, view}
 use Rattle.machine.specs.Addresses.{prefixed, format_good, real_page, key_protects, low_protected}
 use Rattle.machine.proofs.Laws.{get_d_sets_beside}
 use Rattle.laws.proofs.Pages.{real_page_of-page, prefixed_of_page, prefixed_keeps_offset, backing-in_page, backing-in_storage}
-use Rattle.address.specs.declared.Place.{Place}
-use Rattle.address.specs.declared.Place.TheVariants.{At, Denied}
-use Rattle.address.specs.Touching.{seen, Backed, settled, guest_protects, touched, touched_by, touch_of}
+use Rattle.address.specs.Touching.{seen, Backed, settled, guest_protects, touched, touched_by, touch_of, Place}
 use Rattle.address.proofs.Seen.{access-seen}
 use Rattle.address.proofs.Touches.{touched_is, backed_backing}
 use Rattle.marks.specs.Marks.{mark_frame}
 use Rattle.guard.specs.Guarding.{Names, Alike}
 use Rattle.blocks.specs.Keeping.{Block, fetch_block, store_block, Leads, Keeps, Holds, Stands, Inside, Marks, Free, AccessAlike}
+use Rattle.machine.specs.Walk.{Walk}
 
 -- Storages that are alike.
 
@@ -94,8 +92,8 @@ module _ (g : Guest) (h : Host) (c later : Cpu) where
   unfolding real_page format_good low_protected touched settled key_protects
   touch_state accesses zero one store a =
       touched_is g h later store a
-      ∙ ap (λ low. cond (store && low) (Denied (exception_of protection)) (touched g h later store a (real_page g (view g h) later a))) low
-      ∙ ap (cond (store && low_protected c a) (Denied (exception_of protection))) (ap (touched g h later store a) pages ∙ in_page_lem (real_page g (view g h) c a))
+      ∙ ap (λ low. cond (store && low) (Err (exception_of protection)) (touched g h later store a (real_page g (view g h) later a))) low
+      ∙ ap (cond (store && low_protected c a) (Err (exception_of protection))) (ap (touched g h later store a) pages ∙ in_page_lem (real_page g (view g h) c a))
       ∙ sym (touched_is g h c store a)
     where
       dat : dat_on later ≡ dat_on c
@@ -115,12 +113,12 @@ module _ (g : Guest) (h : Host) (c later : Cpu) where
 
       by_host_lem : (protected : Bool) (at : ℕ) (w : Walk)
           → settled g h.keys store (guest_protects later store protected) at w ≡ settled g h.keys store (guest_protects c store protected) at w
-      by_host_lem protected at (Failed f) = refl
-      by_host_lem protected at (Page frame hostProtected) = rw key
+      by_host_lem protected at (Err f) = refl
+      by_host_lem protected at (Ok page) = rw key
 
       in_page_lem : (w : Walk) → touched g h later store a w ≡ touched g h c store a w
-      in_page_lem (Failed f) = refl
-      in_page_lem (Page frame protected) = let at = prefixed g (frame * 4096 + a % 4096) in by_host_lem protected at (backing g h at)
+      in_page_lem (Err f) = refl
+      in_page_lem (Ok page) = let at = prefixed g (page.frame * 4096 + a % 4096) in by_host_lem page.protected at (backing g h at)
 
   pub leads-state : (store : Bool) (b : Block) → Leads g h c store b → AccessAlike c.psw later.psw → later.control ≡ c.control → Leads g h later store b
   leads-state store b leads accesses controls =
@@ -164,60 +162,60 @@ module _ (g : Guest) (h : Host) (c : Cpu) where
 -- A block's bytes lead to one place, which stands in storage.
 
 -- a place is no denial
-no_place : {R : Type 0} {f : Failure} {p : ℕ} → Denied f ≡ At p → R
+no_place : {R : Type 0} {f : Failure} {p : ℕ} → Err f ≡ Ok p → R
 no_place e = let z : ◌≡◌ {A = ℕ} 0 1 = cc in absurd (omega arith)
 
 -- a test that a place has passed
-passed : {R : Type 0} {p : ℕ} (b : Bool) (f : Failure) {x : Place} → (b ≡ false → x ≡ At p → R) → cond b (Denied f) x ≡ At p → R
+passed : {R : Type 0} {p : ℕ} (b : Bool) (f : Failure) {x : Place} → (b ≡ false → x ≡ Ok p → R) → cond b (Err f) x ≡ Ok p → R
 passed true f later e = no_place e
 passed false f later e = later refl e
 
 -- the place is what is found behind both tests
-reached : (x y : Bool) (f i : Failure) (q : ℕ) {p : ℕ} → cond x (Denied f) (cond y (Denied i) (At q)) ≡ At p → q ≡ p
+reached : (x y : Bool) (f i : Failure) (q : ℕ) {p : ℕ} → cond x (Err f) (cond y (Err i) (Ok q)) ≡ Ok p → q ≡ p
 reached true y f i q e = no_place e
 reached false true f i q e = no_place e
 reached false false f i q e = cc
 
 module _ (g : Guest) (h : Host) (c : Cpu) (store : Bool) where
   -- the last tests that a place has passed, for another byte of the page
-  settled-in_page : (protects : ℕ → Bool) (x y p : ℕ) → x / 4096 ≡ y / 4096 → settled g h.keys store protects x (backing g h x) ≡ At p
-      → settled g h.keys store protects y (backing g h y) ≡ At (p / 4096 * 4096 + y % 4096)
+  settled-in_page : (protects : ℕ → Bool) (x y p : ℕ) → x / 4096 ≡ y / 4096 → settled g h.keys store protects x (backing g h x) ≡ Ok p
+      → settled g h.keys store protects y (backing g h y) ≡ Ok (p / 4096 * 4096 + y % 4096)
   unfolding settled
   settled-in_page protects x y p same = by_walk (backing g h x) refl
     where
-      by_walk : (w : Walk) → backing g h x ≡ w → settled g h.keys store protects x w ≡ At p
-          → settled g h.keys store protects y (backing g h y) ≡ At (p / 4096 * 4096 + y % 4096)
-      by_walk (Failed f) backed = no_place
-      by_walk (Page frame protected) backed = passed _ _ λ (allowed : protects (get_or h.keys frame 0) ≡ false).
-          passed _ _ λ (writable : (store && protected) ≡ false) (e : At (in_frame frame x) ≡ At p).
-          let there : in_frame frame x ≡ p = cc in
-          let other : in_frame frame y ≡ p / 4096 * 4096 + y % 4096 = omega arith in
-          rw (backing-in_page g h x y backed same, allowed, writable) (ap At other)
+      by_walk : (w : Walk) → backing g h x ≡ w → settled g h.keys store protects x w ≡ Ok p
+          → settled g h.keys store protects y (backing g h y) ≡ Ok (p / 4096 * 4096 + y % 4096)
+      by_walk (Err f) backed = no_place
+      by_walk (Ok page) backed = passed _ _ λ (allowed : protects (get_or h.keys page.frame 0) ≡ false).
+          passed _ _ λ (writable : (store && page.protected) ≡ false) (e : Ok (in_frame page.frame x) ≡ Ok p).
+          let there : in_frame page.frame x ≡ p = cc in
+          let other : in_frame page.frame y ≡ p / 4096 * 4096 + y % 4096 = omega arith in
+          rw (backing-in_page g h x y backed same, allowed, writable) (ap Ok other)
 
-  touched-in_page : (w : Walk) (a b p : ℕ) → touched g h c store a w ≡ At p → touched g h c store b w ≡ At (p / 4096 * 4096 + b % 4096)
+  touched-in_page : (w : Walk) (a b p : ℕ) → touched g h c store a w ≡ Ok p → touched g h c store b w ≡ Ok (p / 4096 * 4096 + b % 4096)
   unfolding touched
-  touched-in_page (Failed f) a b p e = no_place e
-  touched-in_page (Page frame protected) a b p e =
-      let first = prefixed_of_page g (frame * 4096) (a % 4096) (omega arith) in
-      let other = prefixed_of_page g (frame * 4096) (b % 4096) (omega arith) in
-      let start = prefixed_keeps_offset g (frame * 4096) in
-      let offset : prefixed g (frame * 4096 + b % 4096) % 4096 ≡ b % 4096 = omega arith in
-      settled-in_page _ (prefixed g (frame * 4096 + a % 4096)) (prefixed g (frame * 4096 + b % 4096)) p (omega arith) e
-      ∙ ap (λ x. At (p / 4096 * 4096 + x)) offset
+  touched-in_page (Err f) a b p e = no_place e
+  touched-in_page (Ok page) a b p e =
+      let first = prefixed_of_page g (page.frame * 4096) (a % 4096) (omega arith) in
+      let other = prefixed_of_page g (page.frame * 4096) (b % 4096) (omega arith) in
+      let start = prefixed_keeps_offset g (page.frame * 4096) in
+      let offset : prefixed g (page.frame * 4096 + b % 4096) % 4096 ≡ b % 4096 = omega arith in
+      settled-in_page _ (prefixed g (page.frame * 4096 + a % 4096)) (prefixed g (page.frame * 4096 + b % 4096)) p (omega arith) e
+      ∙ ap (λ x. Ok (p / 4096 * 4096 + x)) offset
 
-  touch_clear : (a p : ℕ) → touch_of g h c store a ≡ At p → touched g h c store a (real_page g (view g h) c a) ≡ At p
+  touch_clear : (a p : ℕ) → touch_of g h c store a ≡ Ok p → touched g h c store a (real_page g (view g h) c a) ≡ Ok p
   touch_clear a p found =
       passed (store && low_protected c a) (exception_of protection) (λ _ e. e) (sym (touched_is g h c store a) ∙ found)
 
   -- place and address are the same byte of a page
-  same_byte : (a p : ℕ) → touch_of g h c store a ≡ At p → p % 4096 ≡ a % 4096
+  same_byte : (a p : ℕ) → touch_of g h c store a ≡ Ok p → p % 4096 ≡ a % 4096
   same_byte a p found =
       let clear = touch_clear a p found in
-      let again : At (p / 4096 * 4096 + a % 4096) ≡ At p = sym (touched-in_page (real_page g (view g h) c a) a a p clear) ∙ clear in
+      let again : Ok (p / 4096 * 4096 + a % 4096) ≡ Ok p = sym (touched-in_page (real_page g (view g h) c a) a a p clear) ∙ clear in
       let whole : p / 4096 * 4096 + a % 4096 ≡ p = cc in
       omega arith
 
-  pub leads_block : (a p : ℕ) → touch_of g h c store a ≡ At p → (b : Block) → b.first ≡ a / 2048 * 2048 → b.place ≡ p / 2048 * 2048 → Leads g h c store b
+  pub leads_block : (a p : ℕ) → touch_of g h c store a ≡ Ok p → (b : Block) → b.first ≡ a / 2048 * 2048 → b.place ≡ p / 2048 * 2048 → Leads g h c store b
   unfolding low_protected
   leads_block a p found b first place d inside small low =
       let offset : p % 4096 ≡ a % 4096 = same_byte a p found in
@@ -231,7 +229,7 @@ module _ (g : Guest) (h : Host) (c : Cpu) (store : Bool) where
       clear false low = refl
       clear true low = rw (le-ltb (b.first + d) 512 (low refl))
 
-pub touch_stands : (g : Guest) (d : ℕ) (s k : List ℕ) (c : Cpu) (store : Bool) (a p : ℕ) → frames_of s ≤ length k → touch_of g (host d s k) c store a ≡ At p
+pub touch_stands : (g : Guest) (d : ℕ) (s k : List ℕ) (c : Cpu) (store : Bool) (a p : ℕ) → frames_of s ≤ length k → touch_of g (host d s k) c store a ≡ Ok p
     → (b : Block) → b.first ≡ a / 2048 * 2048 → b.place ≡ p / 2048 * 2048 → Stands s b × (p / 4096 < length k)
 unfolding touched settled backing host_page
 touch_stands g d s k c store a p each found b first place =
@@ -240,19 +238,19 @@ touch_stands g d s k c store a p each found b first place =
     Good : Type 0
     Good = Stands s b × (p / 4096 < length k)
 
-    by_host_lem : (protects : ℕ → Bool) (x : ℕ) (w : Walk) → backing g (host d s k) x ≡ w → settled g k store protects x w ≡ At p → Good
-    by_host_lem protects x (Failed f) backed e = no_place e
-    by_host_lem protects x (Page frame protected) backed e =
-        let there : in_frame frame x ≡ p = reached (protects (get_or k frame 0)) (store && protected) _ _ _ e in
-        let known : Backed g k x (Page frame protected) = subst (Backed g k x) backed (backed_backing g d s k x each) in
+    by_host_lem : (protects : ℕ → Bool) (x : ℕ) (w : Walk) → backing g (host d s k) x ≡ w → settled g k store protects x w ≡ Ok p → Good
+    by_host_lem protects x (Err f) backed e = no_place e
+    by_host_lem protects x (Ok page) backed e =
+        let there : in_frame page.frame x ≡ p = reached (protects (get_or k page.frame 0)) (store && page.protected) _ _ _ e in
+        let known : Backed g k x (Ok page) = subst (Backed g k x) backed (backed_backing g d s k x each) in
         let whole = backing-in_storage g (host d s k) x backed in
         (record { aligned = omega arith; placed = omega arith; inside = omega arith; small = omega (arith, known.1) }, omega (arith, known.0))
 
-    in_real : (w : Walk) → touched g (host d s k) c store a w ≡ At p → Good
-    in_real (Failed f) e = no_place e
-    in_real (Page frame protected) e =
-        let at = prefixed g (frame * 4096 + a % 4096) in
-        by_host_lem (guest_protects c store protected) at (backing g (host d s k) at) refl e
+    in_real : (w : Walk) → touched g (host d s k) c store a w ≡ Ok p → Good
+    in_real (Err f) e = no_place e
+    in_real (Ok page) e =
+        let at = prefixed g (page.frame * 4096 + a % 4096) in
+        by_host_lem (guest_protects c store page.protected) at (backing g (host d s k) at) refl e
 
 -- where blocks stand goes by the length of storage
 module _ (s t : List ℕ) (long : length t ≡ length s) where

@@ -1,12 +1,11 @@
 -- Blocks of 2,048 bytes whose translation is kept from one unit to the next, in a table of 32 words: the first logical addresses of
 -- eight blocks that are fetched from, texts and operands alike, and the places of their first bytes in host storage; then those of
 -- eight blocks that are stored into. The block of an address stands in entry address / 2,048 % 8.
-use Rattle.std.specs.Prelude.{ℕ, ◌+◌, ◌/◌, ◌%◌, ◌≤◌, ◌<◌, ◌≡◌, Bool, true, false, List, length, get_or}
+use Rattle.std.specs.Prelude.{ℕ, ◌+◌, ◌/◌, ◌%◌, ◌≤◌, ◌<◌, ◌≡◌, Bool, true, false, List, length, get_or, Ok}
 use Rattle.machine.specs.declared.Cpu.{Cpu}
 use Rattle.machine.specs.declared.Guest.{Guest}
 use Rattle.machine.specs.declared.Psw.{Psw}
 use Rattle.machine.specs.Host.{Host, host, referenced, changed}
-use Rattle.address.specs.declared.Place.TheVariants.{At}
 use Rattle.address.specs.Touching.{touch_of}
 use Rattle.guard.specs.Guarding.{Alike}
 
@@ -28,7 +27,7 @@ Holding b = b.first < 2147483648
 -- block's.
 abbrev pub Leads : Guest → Host → Cpu → Bool → Block → Type 0
 Leads g h c store b =
-    (d : ℕ) → d < 2048 → b.first + d < 2147483648 → (store ≡ true → 512 ≤ b.first + d) → touch_of g h c store (b.first + d) ≡ At (b.place + d)
+    (d : ℕ) → d < 2048 → b.first + d < 2147483648 → (store ≡ true → 512 ≤ b.first + d) → touch_of g h c store (b.first + d) ≡ Ok (b.place + d)
 
 pub record Keeps (g : Guest) (h : Host) (c : Cpu) (kept : List ℕ) : Type 0 where
   pub fetch : (i : ℕ) → i < 8 → Leads g h c false (fetch_block kept i)

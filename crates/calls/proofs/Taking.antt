@@ -1,11 +1,11 @@
 -- An interruption on the kept place of the prefix page.
 -- Assumes nothing.
-use Prim.Native.Nat.{ℕ, ◌+◌, ◌*◌, ◌/◌, ◌%◌, ◌≤◌, ◌<◌}
+use Rattle.std.specs.Prelude.{Ok, None, Some, Option}
+use Prim.Native.Nat.{ℕ, ◌+◌, ◌*◌, ◌/◌, ◌%◌, ◌≤◌}
 use native.Mathlib.Omega.{arith}
 use mathlib.Core.Path.{◌≡◌, refl, ap, sym, subst, ◌∙◌}
-use mathlib.Core.Bool.{Bool, true, false}
+use mathlib.Core.Bool.{false}
 use mathlib.Core.List.{List, []}
-use mathlib.Core.Logic.{inl, inr}
 use lib.ListN.{length}
 use lib.Seq.{sets, length-sets}
 use Rattle.machine.specs.declared.Cpu.{Cpu}
@@ -13,24 +13,19 @@ use Rattle.machine.specs.declared.Failure.{Failure}
 use Rattle.machine.specs.declared.Guest.{Guest}
 use Rattle.machine.specs.declared.Psw.{Psw}
 use Rattle.machine.specs.declared.Text.{Text}
-use Rattle.machine.specs.Words.{byte_at, word_at, word_bytes}
 use Rattle.machine.specs.Record.{psw_of, psw_bytes}
 use Rattle.machine.specs.Psw.{basic_control, with_psw, advanced, old_psw}
 use Rattle.machine.specs.Host.{Host, referenced, changed}
 use Rattle.machine.specs.Outcomes.{Progress}
 use Rattle.machine.specs.Interruptions.{program_areas, supervisor_call_areas, fields_beside, interrupt, after_exception, program_fields, exception}
 use Rattle.machine.specs.Execute.{supervisor_call}
-use Rattle.machine.proofs.Laws.{get_d_sets_beside, sets_comm}
 use Rattle.machine.proofs.Tests.{on_either_arm}
-use Rattle.address.specs.Touching.{seen}
 use Rattle.marks.specs.Marks.{mark_frame}
 use Rattle.interruptions.specs.declared.Event.TheVariants as event
 use Rattle.interruptions.specs.declared.Frames.{Frames}
 use Rattle.interruptions.specs.declared.Interruption.{Interruption}
-use Rattle.interruptions.specs.declared.Took.TheVariants.{Open}
 use Rattle.interruptions.specs.After.{mark_text, Left, code_bytes, areas_of, ilc_of, code_of, fields_of, InPrefixPage, event_by, cpu_by}
 use Rattle.interruptions.proofs.Leaving.{none_set, left_taken, interrupted_open}
-use Rattle.interruptions.proofs.Words.{two_words}
 use Rattle.execute.proofs.Exceptions.{excepted_interruption, exception_of_lem}
 use Rattle.execute.proofs.Ending.{supervisor_called}
 use Rattle.guard.specs.Guarding.{Alike}
@@ -40,51 +35,14 @@ use Rattle.area.proofs.Holding.{area_stored, area_behind}
 use Rattle.calls.specs.Calling.{Stands, Excepting}
 use Rattle.calls.specs.Storing.{InOrder, areas_stored}
 
--- the words of the old PSW, stored before the code fields and behind them
-pub areas_put : (s : List ℕ) (area : ℕ) (c : Cpu) (i : Interruption) → InOrder i → (old : Psw) → old ≡ old_psw c (ilc_of i) (code_of i)
-    → sets (sets (sets s (area + i.old) (word_bytes old.left)) (area + i.code) (fields_beside c (fields_of i))) (area + i.old + 4) (word_bytes old.right)
-    ≡ areas_stored s area c i
-areas_put s area c i fits old is =
-    sets_comm (sets s (area + i.old) (word_bytes old.left)) (area + i.code) (fields_beside c (fields_of i)) (area + i.old + 4) (word_bytes old.right)
-    (inr (omega arith))
-    ∙ ap (λ t. sets t (area + i.code) (fields_beside c (fields_of i)))
-    (two_words s (area + i.old) (word_bytes old.left) (word_bytes old.right) refl ∙ ap (λ p. sets s (area + i.old) (psw_bytes p)) is)
-
--- a PSW that stands apart from what is stored
-psw_apart : (system370 : Bool) (s us vs : List ℕ) (a b n : ℕ) → a + length us ≤ n → n + 8 ≤ b
-    → psw_of system370 (sets (sets s a us) b vs) n ≡ psw_of system370 s n
-unfolding psw_of word_at
-psw_apart system370 s us vs a b n before behind =
-    let byte : (i : ℕ) → n ≤ i → i < n + 8 → byte_at (sets (sets s a us) b vs) i ≡ byte_at s i =
-    λ i low high. get_d_sets_beside (sets s a us) b vs i 0 (inl (omega arith)) ∙ get_d_sets_beside s a us i 0 (inr (omega arith)) in
-    rw (
-      byte n (omega arith) (omega arith),
-      byte (n + 1) (omega arith) (omega arith),
-      byte (n + 2) (omega arith) (omega arith),
-      byte (n + 2 + 1) (omega arith) (omega arith),
-      byte (n + 4) (omega arith) (omega arith),
-      byte (n + 4 + 1) (omega arith) (omega arith),
-      byte (n + 4 + 2) (omega arith) (omega arith),
-      byte (n + 4 + 2 + 1) (omega arith) (omega arith),
-    )
-
--- so the new PSW is that of the storage before the interruption
-pub new_apart : (psw : Psw) (s : List ℕ) (area : ℕ) (i : Interruption) {s' : List ℕ} → InOrder i → ((k : Cpu) → k.psw ≡ psw → s' ≡ areas_stored s area k i)
-    → psw_of psw.system370 s' (area + i.new) ≡ psw_of psw.system370 s (area + i.new)
-new_apart psw s area i fits stored =
-    let k = seen psw (record { words = [] }) in
-    ap (λ t. psw_of psw.system370 t (area + i.new)) (stored k refl)
-    ∙ psw_apart psw.system370 s (psw_bytes (old_psw k (ilc_of i) (code_of i))) (fields_beside k (fields_of i)) (area + i.old) (area + i.code) (area + i.new)
-    (omega arith) (omega arith)
-
-fields_short : (word address : ℕ) (long : Bool) → length (code_bytes word address long) ≤ 8
-fields_short word address true = omega arith
-fields_short word address false = omega arith
+fields_short : (word : ℕ) (address : Option ℕ) → length (code_bytes word address) ≤ 8
+fields_short word None = omega arith
+fields_short word (Some address) = omega arith
 
 beside_short : (c : Cpu) (i : Interruption) → length (fields_beside c (fields_of i)) ≤ 8
 unfolding fields_beside
 beside_short c i =
-    on_either_arm (λ fields. length fields ≤ 8) (basic_control c) {u = []} {v = fields_of i} (omega arith) (fields_short i.word i.address i.long)
+    on_either_arm (λ fields. length fields ≤ 8) (basic_control c) {u = []} {v = fields_of i} (omega arith) (fields_short i.word i.address)
 
 module _ {area : ℕ} {psw : Psw} {storage guard : List ℕ} {h : Host} {g : Guest} {x : Progress} {clock : ℕ} {c : Cpu} {text : Text} {t : Frames}
     (stands : Stands area psw storage guard h g x clock c text t) (i : Interruption) (fits : InOrder i) where
@@ -116,14 +74,14 @@ module _ {area : ℕ} {psw : Psw} {storage guard : List ℕ} {h : Host} {g : Gue
       sym (ap (λ k. mark_frame changed (area / 4096) (mark_frame referenced (area / 4096) k)) (sym stands.marked)
       ∙ ap (mark_frame changed (area / 4096)) (mark_same referenced (area / 4096) h.keys (kept.fetched stands.placed))
       ∙ mark_same changed (area / 4096) h.keys (kept.stored stands.placed)) in (
-        left_taken h g c to _ (Open new) (done_as new c.timer c.control)
+        left_taken h g c to _ (Ok new) (done_as new c.timer c.control)
             (interrupted_open h x stands.standing to i (omega arith, omega arith, omega arith) ilc (area / 4096) new
             (area_behind guard g h area i.old stands.placed kept (omega arith))
             (fetched ∙ (λ j. psw_of old.system370 (sym stands.bytes j) (sym at j + i.new)))
             (stored to refl ∙ (λ j. areas_stored (sym stands.bytes j) (sym at j) to i))
             marks)
             refl
-            (none_set c event.Completed new c.timer c.control stands.sixteen),
+            (none_set c event.Completed new c.timer c.control),
         subst (Alike guard storage) (sym (stored to refl)) (areas_alike to),
       )
 
@@ -139,17 +97,17 @@ module _ {area : ℕ} {psw : Psw} {storage guard : List ℕ} {h : Host} {g : Gue
     (stands : Stands area psw storage guard h g x clock c text t) where
   -- SUPERVISOR CALL
   pub called_kept : (number : ℕ) → text.ilc ≡ 1 → text.first % 256 ≡ number → (old new : Psw) {storage' : List ℕ} → old ≡ (advanced c 1).psw
-      → (let i : Interruption = record { old = 32; code = 136; new = 96; word = 131072 + number; address = 0; long = false } in
+      → (let i : Interruption = record { old = 32; code = 136; new = 96; word = 131072 + number; address = None } in
       new ≡ psw_of old.system370 storage (area + i.new) → ((k : Cpu) → k.psw ≡ old → storage' ≡ areas_stored storage area k i)
       → Left h g c (supervisor_call x) (done_as new c.timer c.control) storage' h.keys × Alike guard storage storage')
   called_kept number ilc is old new {storage'} moved fetched stored =
-      let i : Interruption = record { old = 32; code = 136; new = 96; word = 131072 + number; address = 0; long = false } in
+      let i : Interruption = record { old = 32; code = 136; new = 96; word = 131072 + number; address = None } in
       let d = done_as new c.timer c.control in
       let to = with_psw c old in
       let word : 131072 + number ≡ text.ilc * 131072 + text.first % 256 = omega arith in
       let (left, alike) = interrupted_kept stands i (omega arith, omega arith, omega arith) old new (omega arith) fetched stored in (
         supervisor_called h x stands.standing (omega arith) d old to (moved ∙ ap (λ n. (advanced c n).psw) (sym ilc)) refl
-            (subst (λ w. Left h g c (interrupt x to supervisor_call_areas (w % 65536) (fields_beside to (code_bytes w 0 false))) d storage' h.keys) word left),
+            (subst (λ w. Left h g c (interrupt x to supervisor_call_areas (w % 65536) (fields_beside to (code_bytes w None))) d storage' h.keys) word left),
         alike,
       )
 

@@ -4,7 +4,6 @@
 ghost use Rattle.std.specs.Prelude.{◌≡◌, false, ◌+◌, ◌≤◌, ◌<◌, length};
 ghost use Rattle.std.proofs.lemmas.List.Edits.{sets};
 ghost use Rattle.machine.specs.declared.Cpu.{Cpu};
-ghost use Rattle.machine.specs.Words.{word_bytes};
 ghost use Rattle.machine.specs.Record.{psw_of};
 ghost use Rattle.machine.specs.Interruptions.{fields_beside, exception};
 ghost use Rattle.machine.specs.Execute.{supervisor_call};
@@ -15,55 +14,39 @@ ghost use Rattle.calls.specs.Storing.{InOrder, areas_stored};
 use interruptions::Interruption;
 use machine::{Failure, Psw};
 
-// Stores a word.
-fn put(storage: &mut [u8], from: usize, value: u32)
-    requires { from + 4 ≤ length storage.old }
-    ensures { storage.new ≡ sets storage.old from (word_bytes value) }
-{
-    let end = from + 4;
-    writer::put_word_part(&mut storage[from..end], value);
-}
-
 // Stores the code fields of an interruption. A BC PSW takes ILC and code up itself, and nothing is stored beside it.
 fn put_fields(storage: &mut [u8], base: usize, psw: Psw, i: Interruption)
     requires { base + i.code + 8 ≤ length storage.old }
     ensures { (c : Cpu) → c.psw ≡ psw → storage.new ≡ sets storage.old (base + i.code) (fields_beside c (fields_of i)) }
 {
-    if cpu::basic_control(psw) {
-        return;
-    }
-    put(storage, base + i.code as usize, i.word);
-    if i.long {
-        put(storage, base + i.code as usize + 4, i.address);
+    if !cpu::basic_control(psw) {
+        words::put_word(storage, base + i.code as usize, i.word);
+        if let Some(address) = i.address {
+            words::put_word(storage, base + i.code as usize + 4, address);
+        }
     }
 }
 
-// Stores the old PSW and the code fields of an interruption. The words of the PSW stand in two blocks of the code, in each of which
-// the compiler joins the bytes of its word.
+// Stores the old PSW and the code fields of an interruption.
 fn put_areas(storage: &mut [u8], base: usize, psw: Psw, i: Interruption)
     requires { InOrder i × (base + 4096 ≤ length storage.old) }
     ensures { (c : Cpu) → c.psw ≡ psw → storage.new ≡ areas_stored storage.old base c i }
 {
     let old = cpu::old_psw(psw, i.word / 131072 % 4, i.word % 65536);
-    put(storage, base + i.old as usize, old.left);
+    words::put_psw(storage, base + i.old as usize, old);
     put_fields(storage, base, psw, i);
-    put(storage, base + i.old as usize + 4, old.right);
 }
 
-// An interruption at the kept place: the new PSW, which stands apart from what is stored, comes back.
+// An interruption at the kept place. The new PSW, as it stood before, comes back.
 fn take(storage: &mut [u8], area: u32, psw: Psw, i: Interruption) -> Psw
     requires { InOrder i × (area + 4096 ≤ length storage.old) }
     ensures value { result ≡ psw_of psw.system370 storage.old (area + i.new) }
     ensures storage_after { (c : Cpu) → c.psw ≡ psw → storage.new ≡ areas_stored storage.old area c i }
 {
     let base = area as usize;
+    let new = words::psw_at(storage, base + i.new as usize, psw.system370);
     put_areas(storage, base, psw, i);
-    let new = base + i.new as usize;
-    Psw {
-        left: words::word_at(storage, new),
-        right: words::word_at(storage, new + 4),
-        system370: psw.system370,
-    }
+    new
 }
 
 // SUPERVISOR CALL (SVC) with this number, from this PSW. The new PSW comes back.
@@ -76,8 +59,7 @@ pub fn call(storage: &mut [u8], area: u32, psw: Psw, number: u32) -> Psw
         code: 136,
         new: 96,
         word: 131072 + number,
-        address: 0,
-        long: false,
+        address: None,
     };
     let past = cpu::advanced(psw, 1);
     take(storage, area, past, i)

@@ -1,27 +1,15 @@
 -- Many units charged at once are as many charged one by one, and a stretch of calm units is calm from each of its units on.
 -- Assumes nothing.
-use Rattle.std.proofs.Common.{◌≡◌, ℕ, zero, suc, ◌+◌, ◌-◌, ◌*◌, ◌/◌, ◌%◌, ◌^◌, ◌<◌, ◌≤◌, Bool, false, sym, ap, ◌∙◌, mul-le-mul_right, div-lt_iff_lt-mul, add-mul, mul-le-mul, one-mul, mul-zero, mul-add, arith, le-ltb, ne_eqb}
+use Rattle.std.proofs.Common.{◌≡◌, ℕ, ◌+◌, ◌-◌, ◌*◌, ◌/◌, ◌%◌, ◌^◌, ◌<◌, ◌≤◌, Bool, false, sym, ap, ◌∙◌, mul-le-mul_right, add-mul, one-mul, mul-add, arith, ne_eqb}
 use borrow.Author.Tests.{lt-leb}
 use Rattle.machine.specs.declared.Cpu.{Cpu}
 use Rattle.machine.specs.declared.Guest.{Guest}
 use Rattle.machine.specs.Words.{bit}
-use Rattle.machine.specs.Time.{guest_clock, comparator_due, clock_after, timer_after}
+use Rattle.machine.specs.Time.{clock_after, timer_after}
 use Rattle.machine.specs.Interval.{period, falls, residue_after}
 use Rattle.psws.specs.Psws.{psw_at}
 use Rattle.psws.proofs.Placed.{again_at}
 use Rattle.calm.specs.Calming.{clocks, timers, residues, Later, Calm}
-
--- a product of words is a double word
-pub small_product : (x y : ℕ) → x < 2 ^ 32 → y < 2 ^ 32 → x * y < 2 ^ 64
-small_product x y p q = let r : x * y ≤ 4294967295 * 4294967295 = mul-le-mul {n₁ = x} {m₁ = y} {n₂ = 4294967295} {m₂ = 4294967295} (omega arith) (omega arith) in omega arith
-
--- a number that is below a multiple of another: that one is not zero, and goes into it fewer times
-pub some_time : (left most time : ℕ) → left < most * time → 0 < time
-some_time left most zero less = let none : most * zero ≡ 0 = mul-zero most in omega arith
-some_time left most (suc t) less = omega arith
-
-pub fewer_times : (left most time : ℕ) → left < most * time → left / time < most
-fewer_times left most time less = (div-lt_iff_lt-mul (some_time left most time less)).1 less
 
 -- one more of a number
 once_more : (k x : ℕ) → (k + 1) * x ≡ k * x + x
@@ -76,16 +64,6 @@ module _ (residue time : ℕ) where
 -- what is taken off with wrap and added again
 wrapped_away : (time j : ℕ) → time < 2 ^ 64 → j * (2 ^ 64 - time) + j * time ≡ j * 2 ^ 64
 wrapped_away time j small = sym (mul-add j (2 ^ 64 - time) time) ∙ ap (λ x. j * x) (omega arith)
-
--- the timer, by what wraps back to it
-pub timer_back : (timer time k r : ℕ) → time < 2 ^ 64 → r < 2 ^ 64 → (r + k * time) % 2 ^ 64 ≡ timer → r ≡ timers timer time k
-unfolding timers
-timer_back timer time k r small word back = let apart = wrapped_away time k small in omega arith
-
--- the comparator is not due while the time does not take the guest clock past it
-pub not_due : (g : Guest) (clock time j : ℕ) → guest_clock g clock + j * time ≤ g.comparator → g.comparator < 2 ^ 64 → comparator_due g (clocks clock time j) ≡ false
-unfolding comparator_due guest_clock clocks
-not_due g clock time j within small = le-ltb g.comparator (((clock + j * time) % 2 ^ 64 + g.epoch) % 2 ^ 64) (omega arith)
 
 -- the timer is not negative while the time does not take it below zero
 pub not_negative : (timer time j : ℕ) → j * time ≤ timer → timer < 2 ^ 63 → time < 2 ^ 64 → bit 64 0 (timers timer time j) ≡ false

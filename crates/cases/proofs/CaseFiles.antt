@@ -1,5 +1,6 @@
 -- Laws of well-formed case files: how long one is, how long its record is, and how many frames it has.
 -- Assumes nothing.
+use Rattle.std.specs.Prelude.{Err}
 use Prim.Native.Nat.{ℕ, ◌+◌, ◌*◌, ◌≤◌, ◌<◌}
 use native.Mathlib.Omega.{arith}
 use mathlib.Core.Path.{◌≡◌, refl, sym, ◌∙◌}
@@ -8,15 +9,15 @@ use mathlib.Core.List.{List}
 use lib.Dec.{eqb, leb}
 use lib.ListN.{length, length-take, length-drop, get_or-eq_default}
 use borrow.Author.Tests.{eq-eqb, ne_eqb, eqb-true, leb-true, lt-leb}
-use Rattle.machine.specs.declared.Answer.TheVariants.{Refused}
-use Rattle.machine.specs.declared.Numbers.{Numbers}
+use Rattle.std.specs.Prelude.{Option, Some, None, Err}
+use Rattle.machine.specs.declared.Refusal.TheVariants.{Malformed}
 use Rattle.machine.specs.Operations.{run_of}
 use Rattle.machine.specs.Sizes.{frame_bytes}
 use Rattle.machine.specs.Words.{byte_at, half_at}
 use Rattle.machine.specs.Record.{record_length, long_length}
 use Rattle.machine.proofs.Tests.{on_either_arm}
-use Rattle.cases.specs.CaseFile.{version_at, record_at, record_size, count_at, keys_at, length_said, count_of, frames_at, case_version, most_case_frames, well_formed, numbers_of, record_of, keys_of, storage_of, case_of, malformed_number, answer_of, table_of}
-use Rattle.cases.specs.declared.Case.TheVariants.{Malformed, Good}
+use Rattle.cases.specs.CaseFile.{version_at, record_at, record_size, count_at, keys_at, length_said, count_of, frames_at, case_version, most_case_frames, well_formed, numbers_of, record_of, keys_of, storage_of, case_of, answer_of, table_of}
+use Rattle.cases.specs.declared.Case.{Case}
 
 both : (a b : Bool) → a && b ≡ true → (a ≡ true) × (b ≡ true)
 both true b e = (refl, e)
@@ -83,34 +84,37 @@ module _ (file : List ℕ) (good : well_formed file ≡ true) where
   record_length_lem = simp (length-take, length-drop) (omega (arith, good_length, good_least))
 
 -- what a parser found of a well-formed file
-pub good_case : (file : List ℕ) (n : Numbers) (count : ℕ) → case_of file ≡ Good n count → (well_formed file ≡ true) × (n ≡ numbers_of file) × (count ≡ count_of file)
+pub good_case : (file : List ℕ) (c : Case) → case_of file ≡ Some c → (well_formed file ≡ true) × (c.numbers ≡ numbers_of file) × (c.count ≡ count_of file)
 unfolding case_of
-good_case file n count found = by_form (well_formed file) refl
+good_case file c found = by_form (well_formed file) refl
   where
-    by_form : (b : Bool) → well_formed file ≡ b → (well_formed file ≡ true) × (n ≡ numbers_of file) × (count ≡ count_of file)
-    by_form true e = let same : Good (numbers_of file) (count_of file) ≡ Good n count = rw e at found in (e, cc, cc)
-    by_form false e = let never : Malformed ≡ Good n count = rw e at found in let z : ◌≡◌ {A = ℕ} 0 1 = cc in absurd (omega arith)
+    by_form : (b : Bool) → well_formed file ≡ b → (well_formed file ≡ true) × (c.numbers ≡ numbers_of file) × (c.count ≡ count_of file)
+    by_form true e =
+        let same : Some (record { numbers = numbers_of file; count = count_of file }) ≡ Some c = rw e at found in (e, cc, cc)
+    by_form false e = let never : None ≡ Some c = rw e at found in let z : ◌≡◌ {A = ℕ} 0 1 = cc in absurd (omega arith)
 
-pub few : (file : List ℕ) (n : Numbers) (count : ℕ) → case_of file ≡ Good n count → count ≤ most_case_frames
-few file n count found = let good = good_case file n count found in omega (arith, good.2, good_most file good.0)
+pub few : (file : List ℕ) (c : Case) → case_of file ≡ Some c → c.count ≤ most_case_frames
+few file c found = let good = good_case file c found in omega (arith, good.2, good_most file good.0)
 
 -- the run of its parts gives its answer, and the table that was bad
-pub run_of_parts : (file : List ℕ) (n : Numbers) (count : ℕ) → case_of file ≡ Good n count → {r frames keys : List ℕ}
+pub run_of_parts : (file : List ℕ) (c : Case) → case_of file ≡ Some c → {r frames keys : List ℕ}
     → r ≡ record_of file → frames ≡ storage_of file → keys ≡ keys_of file
-    → ((run_of n r frames keys).answer ≡ answer_of file) × ((run_of n r frames keys).table ≡ table_of file)
+    → ((run_of c.numbers r frames keys).answer ≡ answer_of file) × ((run_of c.numbers r frames keys).table ≡ table_of file)
 unfolding answer_of table_of
-run_of_parts file n count found {r} {frames} {keys} whole rest marks =
-    let good = good_case file n count found in
+run_of_parts file c found {r} {frames} {keys} whole rest marks =
+    let good = good_case file c found in
     rw good.0 (
       λ i. (run_of (good.1 i) (whole i) (rest i) (marks i)).answer,
       λ i. (run_of (good.1 i) (whole i) (rest i) (marks i)).table,
     )
 
-pub malformed-answer : (file : List ℕ) → case_of file ≡ Malformed → answer_of file ≡ Refused malformed_number
+pub malformed-answer : (file : List ℕ) → case_of file ≡ None → answer_of file ≡ Err Malformed
 unfolding case_of answer_of
 malformed-answer file found = by_form (well_formed file) refl
   where
     by_form : (b : Bool) → well_formed file ≡ b
-        → cond (well_formed file) (run_of (numbers_of file) (record_of file) (storage_of file) (keys_of file)).answer (Refused malformed_number) ≡ Refused malformed_number
-    by_form true e = let never : Good (numbers_of file) (count_of file) ≡ Malformed = rw e at found in let z : ◌≡◌ {A = ℕ} 0 1 = cc in absurd (omega arith)
+        → cond (well_formed file) (run_of (numbers_of file) (record_of file) (storage_of file) (keys_of file)).answer (Err Malformed) ≡ Err Malformed
+    by_form true e =
+        let never : ◌≡◌ {A = Option Case} (Some (record { numbers = numbers_of file; count = count_of file })) None = rw e at found in
+        let z : ◌≡◌ {A = ℕ} 0 1 = cc in absurd (omega arith)
     by_form false e = rw e

@@ -1,5 +1,6 @@
 -- The worked examples of a case file.
 -- Assumes nothing.
+use Rattle.std.specs.Prelude.{Err}
 use Prim.Native.Nat.{ℕ, ◌+◌, ◌<◌}
 use native.Mathlib.Omega.{arith}
 use mathlib.Core.Path.{◌≡◌, refl, ap, subst, ◌∙◌}
@@ -7,15 +8,15 @@ use mathlib.Core.Bool.{Bool, true, false}
 use mathlib.Core.List.{List}
 use lib.ListN.{length}
 use lib.Seq.{get_or-drop, get_or-take}
-use Rattle.machine.specs.declared.Answer.TheVariants.{Refused}
+use Rattle.machine.specs.declared.Refusal.{Refusal}
+use Rattle.machine.specs.declared.Refusal.TheVariants.{WrongLength, WrongVersion, Malformed}
 use Rattle.machine.specs.declared.Numbers.{Numbers}
-use Rattle.machine.specs.declared.Verdict.TheVariants.{Accepted}
-use Rattle.machine.specs.declared.Verdict.TheVariants as verdict
 use Rattle.machine.specs.Answers.{reason_code, end_number}
 use Rattle.machine.specs.Words.{byte_at, half_at}
-use Rattle.machine.specs.Refusals.{wrong_length, wrong_version, run_verdict}
+use Rattle.machine.specs.Refusals.{wrong_length, wrong_version, run_verdict, no_refusal}
 use Rattle.machine.specs.Operations.{run_as, run_of}
 use Rattle.machine.specs.Theorems.{with_budget}
+use Rattle.machine.specs.Answers.{refusal_number}
 use Rattle.machine.proofs.Accepted.{budget_and_stop_differ}
 use Rattle.lines.specs.Line.{decimal_in, end_letter, line_of}
 use Rattle.cases.specs.CaseFile.{record_at, record_size, well_formed, numbers_of, record_of, keys_of, storage_of, answer_of}
@@ -40,7 +41,7 @@ worked_examples = record {
       (answer_of-run file good
       ∙ ap (λ n. (run_of n (record_of file) (storage_of file) (keys_of file)).answer) zero-budget
       ∙ budget_and_stop_differ.no_budget (numbers_of file) _ _ _
-      (subst (λ n. run_verdict n (record_of file) (storage_of file) (keys_of file) ≡ Accepted) zero-budget good.accepted)
+      (subst (λ n. run_verdict n (record_of file) (storage_of file) (keys_of file) ≡ no_refusal) zero-budget good.accepted)
       good.entered);
 }
 
@@ -53,24 +54,24 @@ record_field file =
     omega (arith, record_byte file 0 (omega (arith, size_least file)), record_byte file 1 (omega (arith, size_least file)))
 
 module _ (file : List ℕ) (formed : well_formed file ≡ true) where
-  run-refused : (number : ℕ) → run_verdict (numbers_of file) (record_of file) (storage_of file) (keys_of file) ≡ verdict.Refused number → answer_of file ≡ Refused number
+  run-refused : (why : Refusal) → run_verdict (numbers_of file) (record_of file) (storage_of file) (keys_of file) ≡ Err why → answer_of file ≡ Err why
   unfolding answer_of run_of run_as
-  run-refused number refused = rw (formed, refused)
+  run-refused why refused = rw (formed, refused)
 
-  other_field_lem : half_at file record_at ≡ 199 → answer_of file ≡ Refused 1
+  other_field_lem : half_at file record_at ≡ 199 → answer_of file ≡ Err WrongLength
   unfolding run_verdict wrong_length
   other_field_lem said =
       let long : length (record_of file) ≡ 200 = record_length_lem file formed ∙ short_size file (λ same. absurd (omega arith)) in
-      run-refused 1 (rw (long, record_field file, said))
+      run-refused WrongLength (rw (long, record_field file, said))
 
-  old_version_lem : half_at file record_at ≡ 208 → byte_at file (record_at + 2) ≡ 1 → answer_of file ≡ Refused 2
+  old_version_lem : half_at file record_at ≡ 208 → byte_at file (record_at + 2) ≡ 1 → answer_of file ≡ Err WrongVersion
   unfolding run_verdict wrong_length wrong_version
   old_version_lem said version =
       let long : length (record_of file) ≡ 208 = record_length_lem file formed ∙ long_size file said in
-      run-refused 2 (rw (long, record_field file, said, record_byte file 2 (omega (arith, size_least file)), version))
+      run-refused WrongVersion (rw (long, record_field file, said, record_byte file 2 (omega (arith, size_least file)), version))
 
 -- a file that cannot be well formed
-malformed : (file : List ℕ) → (well_formed file ≡ true → ⊥) → answer_of file ≡ Refused 9
+malformed : (file : List ℕ) → (well_formed file ≡ true → ⊥) → answer_of file ≡ Err Malformed
 unfolding answer_of
 malformed file never = rw (by_form (well_formed file) refl)
   where
@@ -79,7 +80,7 @@ malformed file never = rw (by_form (well_formed file) refl)
     by_form false bad = refl
 
 pub sized_examples : SizedExamples
-unfolding line_of decimal_in
+unfolding line_of decimal_in refusal_number
 sized_examples = record {
   longer = λ file said. (rw (long_size file said), rw (long_size file said));
   shorter = λ file other. (rw (short_size file other), rw (short_size file other));

@@ -1,8 +1,7 @@
 -- Case files: when one is well formed, where its parts stand, and the answer it asks for. Document 01, "Case file and worked examples".
 -- Request 1/12: the record's own length field gives its size.
-use Rattle.std.specs.Prelude.{ℕ, ◌+◌, ◌*◌, Bool, cond, ◌&&◌, List, eqb, leb, length, take, drop}
-use Rattle.machine.specs.declared.Answer.{Answer}
-use Rattle.machine.specs.declared.Answer.TheVariants.{Refused}
+use Rattle.std.specs.Prelude.{ℕ, ◌+◌, ◌*◌, Bool, cond, ◌&&◌, List, Option, Some, None, eqb, leb, length, take, drop, Err}
+use Rattle.machine.specs.declared.Refusal.TheVariants.{Malformed}
 use Rattle.machine.specs.declared.Numbers.{Numbers}
 use Rattle.machine.specs.declared.Sought.{Sought}
 use Rattle.machine.specs.Sought.{nowhere}
@@ -11,7 +10,7 @@ use Rattle.machine.specs.Record.{record_length, long_length}
 use Rattle.machine.specs.Sizes.{frame_bytes}
 use Rattle.machine.specs.Words.{byte_at, half_at, word_at, double_at}
 use Rattle.cases.specs.declared.Case.{Case}
-use Rattle.cases.specs.declared.Case.TheVariants.{Malformed, Good}
+use Rattle.machine.specs.Refusals.{RunAnswer}
 
 -- where the parts stand
 
@@ -92,16 +91,12 @@ abbrev pub storage_of : List ℕ → List ℕ
 storage_of file = drop (frames_at file) file
 
 -- what a parser finds
-unfoldable pub case_of : List ℕ → Case
-case_of file = cond (well_formed file) (Good (numbers_of file) (count_of file)) Malformed
+unfoldable pub case_of : List ℕ → Option Case
+case_of file = cond (well_formed file) (Some (record { numbers = numbers_of file; count = count_of file })) None
 
--- refusal 9, which comes before all
-abbrev pub malformed_number : ℕ
-malformed_number = 9
-
--- the answer that a case file asks for
-unfoldable pub answer_of : List ℕ → Answer
-answer_of file = cond (well_formed file) (run_of (numbers_of file) (record_of file) (storage_of file) (keys_of file)).answer (Refused malformed_number)
+-- the answer that a case file asks for: refusal 9, Malformed, comes before all
+unfoldable pub answer_of : List ℕ → RunAnswer
+answer_of file = cond (well_formed file) (run_of (numbers_of file) (record_of file) (storage_of file) (keys_of file)).answer (Err Malformed)
 
 -- the table that was bad, which no line says
 unfoldable pub table_of : List ℕ → Sought

@@ -1,10 +1,9 @@
 -- Document 01's two worked examples of a case file, for every such file, and files with other length fields (request 1/12). The proofs
 -- are in proofs/.
 use Rattle.std.specs.Prelude.{ℕ, ◌+◌, ◌*◌, ◌<◌, ◌≡◌, true, List, [], ◌∷◌, length, take, drop}
-use Rattle.machine.specs.declared.Verdict.TheVariants.{Accepted}
 use Rattle.machine.specs.Words.{byte_at, half_at, word_at}
 use Rattle.machine.specs.Record.{guest_of}
-use Rattle.machine.specs.Refusals.{run_verdict}
+use Rattle.machine.specs.Refusals.{run_verdict, no_refusal}
 use Rattle.machine.specs.Entry.{entry_good}
 use Rattle.machine.specs.Units.{stop_requested}
 use Rattle.lines.specs.Line.{line_of}
@@ -13,7 +12,7 @@ use Rattle.cases.specs.CaseFile.{record_at, count_of, well_formed, numbers_of, r
 -- a file that no refusal names, with a good entry
 pub record GoodFile (file : List ℕ) : Type 0 where
   pub formed : well_formed file ≡ true
-  pub accepted : run_verdict (numbers_of file) (record_of file) (storage_of file) (keys_of file) ≡ Accepted
+  pub accepted : run_verdict (numbers_of file) (record_of file) (storage_of file) (keys_of file) ≡ no_refusal
   pub entered : entry_good (guest_of (record_of file)) ≡ true
 
 -- with V bit 5 one and a budget it prints `I 40 0`; with budget 0, `B 0 0`

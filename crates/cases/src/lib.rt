@@ -1,9 +1,8 @@
-// Case files: the parser, and copies of a file's parts. A file is any slice. Each contract equates with the definitions of
-// specs/CaseFile.
+// Case files: the parser. A file is any slice. Each contract equates with the definitions of specs/CaseFile.
 #![tactic(auto)]
 
-ghost use Rattle.std.specs.Prelude.{◌≡◌, true, ◌*◌, ◌≤◌, length, take};
-ghost use Rattle.cases.specs.CaseFile.{record_size, count_of, numbers_of, record_of, keys_of, storage_of, well_formed, case_of};
+ghost use Rattle.std.specs.Prelude.{◌≡◌, ◌≤◌, length};
+ghost use Rattle.cases.specs.CaseFile.{record_size, numbers_of, case_of};
 
 use machine::Numbers;
 
@@ -17,7 +16,7 @@ const TIME: usize = 17;
 
 const BUDGET: usize = 21;
 
-const RECORD: usize = 23;
+pub const RECORD: usize = 23;
 
 // A file with a byte for the frame count, whatever the record's size, is this long.
 const LEAST: usize = 224;
@@ -26,57 +25,29 @@ const FRAME: usize = 4096;
 
 const MOST_FRAMES: usize = 8;
 
-const MOST_BYTES: usize = 32768;
-
 // The sizes of the record.
 const SHORT_RECORD: usize = 200;
 
 const LONG_RECORD: usize = 208;
 
-// What a parser finds: the numbers and the frame count of a well-formed file.
+// What a parser finds of a well-formed file: the numbers and the frame count.
 #[derive(Clone, Copy)]
-pub enum Case {
-    Malformed,
-    Good { numbers: Numbers, count: usize },
+pub struct Case {
+    pub numbers: Numbers,
+    pub count: usize,
 }
 
 // The size of the record, which its length field gives.
+#[tactic(auto, unfolding(crate::specs::CaseFile::record_size))]
 pub fn record_size(file: &[u8]) -> usize
     requires { 25 ≤ length file.now }
     ensures { result ≡ record_size file.now }
 {
     if words::half_at(file, RECORD) as usize == LONG_RECORD {
-        return LONG_RECORD;
+        LONG_RECORD
+    } else {
+        SHORT_RECORD
     }
-    SHORT_RECORD
-}
-
-// A file is not malformed.
-fn well_formed(file: &[u8]) -> bool
-    ensures { result ≡ well_formed file.now }
-{
-    if file.len() < LEAST {
-        return false;
-    }
-    let at = RECORD + record_size(file);
-    if file.len() < at + 1 {
-        return false;
-    }
-    let total = 4 + words::word_at(file, 0) as usize;
-    if total != file.len() {
-        return false;
-    }
-    let count = file[at] as usize;
-    if total != at + 1 + count + count * FRAME {
-        return false;
-    }
-    if file[VERSION] != 1 {
-        return false;
-    }
-    if count < 1 {
-        return false;
-    }
-    count <= MOST_FRAMES
 }
 
 // The numbers of a case file.
@@ -88,71 +59,31 @@ fn numbers_of(file: &[u8]) -> Numbers
         designation: words::word_at(file, DESIGNATION),
         clock: words::double_at(file, CLOCK),
         time: words::word_at(file, TIME),
-        budget: words::half_at(file, BUDGET),
+        budget: words::half_at(file, BUDGET) as u32,
     }
-}
-
-// The frame count of a case file.
-fn count_of(file: &[u8]) -> usize
-    requires { well_formed file.now ≡ true }
-    ensures { result ≡ count_of file.now }
-{
-    let at = RECORD + record_size(file);
-    file[at] as usize
 }
 
 // Parses a case file.
-pub fn parse(file: &[u8]) -> Case
+pub fn parse(file: &[u8]) -> Option<Case>
     ensures { result ≡ case_of file.now }
 {
-    if well_formed(file) {
-        return Case::Good {
-            numbers: numbers_of(file),
-            count: count_of(file),
-        };
+    if file.len() < LEAST {
+        return None;
     }
-    Case::Malformed
-}
-
-// The record of a case file, at the start.
-pub fn record_of(file: &[u8]) -> [u8; LONG_RECORD]
-    requires { well_formed file.now ≡ true }
-    ensures { (length result ≡ 208) × (take (record_size file.now) result ≡ record_of file.now) }
-{
-    let mut part = [0; LONG_RECORD];
-    let end = RECORD + record_size(file);
-    part[..end - RECORD].copy_from_slice(&file[RECORD..end]);
-    part
-}
-
-// The keys of a case file, at the start.
-pub fn keys_of(file: &[u8], count: usize) -> [u8; MOST_FRAMES]
-    requires file_value { well_formed file.now ≡ true }
-    requires count_value { count ≡ count_of file.now }
-    ensures { (length result ≡ 8) × (take count result ≡ keys_of file.now) }
-{
-    let mut part = [0; MOST_FRAMES];
-    let at = RECORD + record_size(file) + 1;
-    let end = at + count;
-    part[..count].copy_from_slice(&file[at..end]);
-    part
-}
-
-// Room for the most frames. The contract gives the length alone, so that no proof spells the zeros out.
-fn room() -> [u8; MOST_BYTES]
-    ensures { 32768 ≡ length result }
-{
-    [0; MOST_BYTES]
-}
-
-// The frames of a case file, at the start.
-pub fn storage_of(file: &[u8], count: usize) -> [u8; MOST_BYTES]
-    requires file_value { well_formed file.now ≡ true }
-    requires count_value { count ≡ count_of file.now }
-    ensures { (length result ≡ 32768) × (take (count * 4096) result ≡ storage_of file.now) }
-{
-    let mut part = room();
-    let at = RECORD + record_size(file) + 1 + count;
-    part[..count * FRAME].copy_from_slice(&file[at..]);
-    part
+    let at = RECORD + record_size(file);
+    let count = *file.get(at)? as usize;
+    let total = 4 + words::word_at(file, 0) as usize;
+    if total == file.len()
+        && total == at + 1 + count + count * FRAME
+        && file[VERSION] == 1
+        && count >= 1
+        && count <= MOST_FRAMES
+    {
+        Some(Case {
+            numbers: numbers_of(file),
+            count,
+        })
+    } else {
+        None
+    }
 }

@@ -1,28 +1,22 @@
 // What follows a unit: how it ended, the state that it left, its charge, and the interval timer's update.
 #![tactic(auto)]
 
-ghost use Rattle.std.specs.Prelude.{◌≡◌, true, false, cond, ◌&&◌, ◌≤◌, ◌<◌, set};
+ghost use Rattle.std.specs.Prelude.{◌≡◌, true, false, ◌&&◌, ◌≤◌, ◌<◌};
 ghost use Rattle.machine.specs.Refusals.{most_time};
-ghost use Rattle.machine.specs.Interval.{active, period, residue_after, without_t};
+ghost use Rattle.machine.specs.Interval.{active, period, residue_after};
 ghost use Rattle.machine.specs.Time.{charged};
-ghost use Rattle.machine.specs.Run.{clears_t};
 ghost use Rattle.machine.specs.Record.{Sixteen, Bounded};
 ghost use Rattle.storage.specs.Entered.{Entered};
-ghost use Rattle.interruptions.specs.After.{left_by};
+ghost use Rattle.interruptions.specs.After.{set_by, left_by};
 ghost use Rattle.charging.specs.Ending.{is_completed, end_of, of_mode};
-ghost use Rattle.charging.specs.Ticking.{request_behind, due_at, DueFound, Reaches, is_shut, fault_end, Fallen};
+ghost use Rattle.charging.specs.Ticking.{request_behind, DueFound, Reaches, is_shut, fault_end, Fallen};
 
 use interruptions::{Done, Event};
 use interval::Word;
-use machine::{Cpu, End, Failure, Guest, Psw, Reason, Registers};
+use machine::{Cpu, End, Guest, Psw, Reason, Registers};
 
-// What the timer's word does at the end of a unit: nothing, it falls at this host absolute address, or it cannot be stored into.
-#[derive(Clone, Copy)]
-pub enum Due {
-    Later,
-    At(u32),
-    Shut(Failure),
-}
+// The timer's word that falls at the end of a unit, if it does: where it stands, or why it cannot be stored into.
+pub type Due = Option<Word>;
 
 // The timer's request byte and its residue.
 #[derive(Clone, Copy)]
@@ -34,17 +28,15 @@ pub struct Ticked {
 const INTERVAL: u16 = 0x0080;
 
 // The unit completed.
+#[tactic(auto, unfolding(crate::specs::Ending::is_completed))]
 pub fn completed(event: Event) -> bool
     ensures { result ≡ is_completed event }
 {
-    match event {
-        Event::Completed => true,
-        Event::Intercepted(_) => false,
-        Event::Faulted(_) => false,
-    }
+    matches!(event, Event::Completed)
 }
 
 // How an exit ends the run.
+#[tactic(auto, unfolding(crate::specs::Ending::end_of))]
 pub fn end_of(event: Event) -> End
     ensures { result ≡ end_of event }
 {
@@ -56,32 +48,30 @@ pub fn end_of(event: Event) -> End
 }
 
 // The general registers with one of them set, or none.
-fn general_after(general: Registers, register: u32, value: u32) -> Registers
-    ensures { (result.words ≡ set general.words register value) × Sixteen result.words }
+#[tactic(auto, unfolding(interruptions::specs::After::set_by))]
+fn general_after(general: Registers, set: Option<(u32, u32)>) -> Registers
+    ensures { (result.words ≡ set_by set general.words) × Sixteen result.words }
 {
-    if register < 16 {
-        let mut words = general;
-        words.words[register as usize] = value;
-        return words;
+    let mut after = general;
+    match set {
+        Some((register, value)) if register < 16 => after.words[register as usize] = value,
+        _ => {}
     }
-    general
+    after
 }
 
 // The state that a unit left. The PSW's architecture is that of the run.
 pub fn state_after(cpu: Cpu, done: Done) -> Cpu
     ensures { (result ≡ of_mode cpu.psw.system370 (left_by cpu done)) × Bounded result }
 {
-    let psw = Psw {
-        left: done.psw.left,
-        right: done.psw.right,
-        system370: cpu.psw.system370,
-    };
-    let control = done.control;
     Cpu {
-        psw,
+        psw: Psw {
+            system370: cpu.psw.system370,
+            ..done.psw
+        },
         timer: done.timer,
-        control,
-        general: general_after(cpu.general, done.register, done.value),
+        control: done.control,
+        general: general_after(cpu.general, done.set),
     }
 }
 
@@ -89,45 +79,20 @@ pub fn state_after(cpu: Cpu, done: Done) -> Cpu
 pub fn charged(cpu: Cpu, time: u32) -> Cpu
     ensures { (result ≡ charged cpu time) × Bounded result }
 {
-    let mut next = cpu;
-    next.timer = clocks::timer_after(cpu.timer, time);
-    next
-}
-
-// The request byte behind an interception: T is cleared by the exit that it makes.
-fn answered(reason: Reason, request: u8) -> u8
-    ensures { result ≡ cond (clears_t reason) (without_t request) request }
-{
-    match reason {
-        Reason::Instruction(_) => request,
-        Reason::Program {
-            code: _,
-            ilc: _,
-            address: _,
-        } => request,
-        Reason::ExternalRequest => request,
-        Reason::External(code) => {
-            if code == INTERVAL {
-                return interval::without_t(request);
-            }
-            request
-        }
-        Reason::IoRequest => request,
-        Reason::Wait => request,
-        Reason::Validity => request,
-        Reason::Stop => request,
-        Reason::Operation(_) => request,
+    Cpu {
+        timer: clocks::timer_after(cpu.timer, time),
+        ..cpu
     }
 }
 
-// The request byte behind a unit that no update of the timer follows.
+// The request byte behind a unit that no update of the timer follows: T is cleared by the exit that it makes.
+#[tactic(auto, unfolding(crate::specs::Ticking::request_behind, machine::specs::Run::clears_t))]
 fn request_behind(event: Event, request: u8) -> u8
     ensures { result ≡ request_behind event request }
 {
     match event {
-        Event::Completed => request,
-        Event::Intercepted(reason) => answered(reason, request),
-        Event::Faulted(_) => request,
+        Event::Intercepted(Reason::External(INTERVAL)) => interval::without_t(request),
+        _ => request,
     }
 }
 
@@ -136,22 +101,14 @@ pub fn behind_exit(timed: bool, event: Event, request: u8) -> u8
     ensures { timed ≡ true → result ≡ request_behind event request }
 {
     if timed {
-        return request_behind(event, request);
-    }
-    request
-}
-
-// What the word does, by where it stands.
-fn due_at(word: Word) -> Due
-    ensures { result ≡ due_at word }
-{
-    match word {
-        Word::At(at) => Due::At(at),
-        Word::Shut(f) => Due::Shut(f),
+        request_behind(event, request)
+    } else {
+        request
     }
 }
 
 // What the word does at the end of the unit that begins here. The tables are looked at only where it falls.
+#[tactic(auto, unfolding(crate::specs::Ticking::DueFound))]
 pub fn find_due(
     storage: &[u8],
     designation: u32,
@@ -163,58 +120,52 @@ pub fn find_due(
     requires { Entered guest × (timed ≡ active guest) }
     ensures { DueFound designation guest storage.now residue time result }
 {
-    if timed {
-        if interval::falls(residue, time) {
-            return due_at(interval::find_word(storage, designation, guest));
-        }
+    if timed && interval::falls(residue, time) {
+        Some(interval::find_word(storage, designation, guest))
+    } else {
+        None
     }
-    Due::Later
 }
 
 // The word that falls at the end of the unit cannot be stored into.
+#[tactic(auto, unfolding(crate::specs::Ticking::is_shut))]
 pub fn is_shut(due: Due) -> bool
     ensures { result ≡ is_shut due }
 {
-    match due {
-        Due::Later => false,
-        Due::At(_) => false,
-        Due::Shut(_) => true,
-    }
+    matches!(due, Some(Err(_)))
 }
 
 // Such a unit would complete.
+#[tactic(auto, unfolding(crate::specs::Ticking::is_shut))]
 pub fn undone(due: Due, event: Event) -> bool
     ensures { result ≡ (is_shut due && is_completed event) }
 {
-    if is_shut(due) {
-        return completed(event);
-    }
-    false
+    is_shut(due) && completed(event)
 }
 
 // How the run ends where it would.
+#[tactic(auto, unfolding(crate::specs::Ticking::fault_end))]
 pub fn fault_end(due: Due) -> End
     ensures { result ≡ fault_end due }
 {
     match due {
-        Due::Later => End::BudgetUsed,
-        Due::At(_) => End::BudgetUsed,
-        Due::Shut(f) => End::HostFault(f),
+        Some(Err(f)) => End::HostFault(f),
+        _ => End::BudgetUsed,
     }
 }
 
 // The word falls where it is due, and the answer is the request byte behind that.
+#[tactic(auto, unfolding(crate::specs::Ticking::Reaches, crate::specs::Ticking::Fallen))]
 fn fallen(storage: &mut [u8], due: Due, request: u8) -> u8
     requires { Reaches storage.old due }
     ensures { Fallen due request storage.old result storage.new }
 {
     match due {
-        Due::Later => request,
-        Due::At(at) => {
+        Some(Ok(at)) => {
             let word = interval::fall(storage, at);
             interval::request_after(request, word)
         }
-        Due::Shut(_) => request,
+        _ => request,
     }
 }
 
@@ -233,11 +184,11 @@ pub fn tick(
         × (timed ≡ false → storage.new ≡ storage.old) }
 {
     if timed {
-        let after = fallen(storage, due, request);
-        return Ticked {
-            request: after,
+        Ticked {
+            request: fallen(storage, due, request),
             residue: interval::residue_after(residue, time),
-        };
+        }
+    } else {
+        Ticked { request, residue }
     }
-    Ticked { request, residue }
 }

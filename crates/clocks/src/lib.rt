@@ -2,50 +2,51 @@
 // 2^64. Each contract equates with machine's Time.
 #![tactic(auto)]
 
-ghost use Rattle.std.specs.Prelude.{◌≡◌, nat_lt};
+ghost use Rattle.std.specs.Prelude.{◌≡◌};
 ghost use Rattle.machine.specs.declared.Cpu.{Cpu};
 ghost use Rattle.machine.specs.Time.{guest_clock, comparator_due, timer_due, clock_after, timer_after};
 
 use machine::Guest;
 
+// The leftmost bit of a doubleword.
+const SIGN: u64 = 1 << 63;
+
 // The clock that the guest sees.
+#[tactic(auto, unfolding(machine::specs::Time::guest_clock))]
 pub fn guest_clock(epoch: u64, clock: u64) -> u64
     ensures { (g : Guest) → g.epoch ≡ epoch → result ≡ guest_clock g clock }
 {
-    std::num::wrapping_add_u64(clock, epoch)
+    clock.wrapping_add(epoch)
 }
 
-// A clock is past a comparator, both unsigned.
-fn past(comparator: u64, clock: u64) -> bool
-    ensures { result ≡ nat_lt comparator clock }
-{
-    comparator < clock
-}
-
-// The guest clock is past the comparator.
+// The guest clock is past the comparator, both unsigned.
+#[tactic(auto, unfolding(machine::specs::Time::comparator_due))]
 pub fn comparator_due(guest: Guest, clock: u64) -> bool
     ensures { result ≡ comparator_due guest clock }
 {
-    past(guest.comparator, guest_clock(guest.epoch, clock))
+    guest.comparator < guest_clock(guest.epoch, clock)
 }
 
 // The CPU timer is negative.
+#[tactic(auto, unfolding(machine::specs::Time::timer_due))]
 pub fn timer_due(timer: u64) -> bool
     ensures { (c : Cpu) → c.timer ≡ timer → result ≡ timer_due c }
 {
-    timer / 9223372036854775808 % 2 == 1
+    timer >= SIGN
 }
 
 // The CPU timer after a unit.
+#[tactic(auto, unfolding(machine::specs::Time::timer_after))]
 pub fn timer_after(timer: u64, time: u32) -> u64
     ensures { result ≡ timer_after timer time }
 {
-    std::num::wrapping_sub_u64(timer, time as u64)
+    timer.wrapping_sub(time as u64)
 }
 
 // The host clock after a unit.
+#[tactic(auto, unfolding(machine::specs::Time::clock_after))]
 pub fn clock_after(clock: u64, time: u32) -> u64
     ensures { result ≡ clock_after clock time }
 {
-    std::num::wrapping_add_u64(clock, time as u64)
+    clock.wrapping_add(time as u64)
 }

@@ -16,7 +16,7 @@ use Rattle.machine.specs.Psw.{advanced}
 use Rattle.machine.specs.Opcodes.{length_of}
 use Rattle.machine.specs.Outcomes.{Progress}
 use Rattle.machine.specs.Execute.{r1, next, range_count, controls_from, with_controls, load_control, store_control}
-use Rattle.writer.proofs.Parts.{sets_of_part}
+use Rattle.words.proofs.Parts.{sets_of_part}
 use Rattle.interruptions.specs.After.{left_by, with_registers, Left}
 use Rattle.interruptions.proofs.Leaving.{past_it}
 use Rattle.loads.proofs.Fetching.{controls_loaded}
@@ -24,8 +24,8 @@ use Rattle.stores.proofs.Controls.{length_controls}
 use Rattle.guard.specs.Guarding.{Alike}
 use Rattle.blocks.specs.Keeping.{fetch_block, store_block}
 use Rattle.steps.specs.Texting.{short_text, done_as}
-use Rattle.steps.proofs.Completing.{set_none}
-use Rattle.special.specs.declared.Single.{Single}
+use Rattle.steps.proofs.Completing.{set_unset}
+use Rattle.special.specs.declared.Done.{Done}
 use Rattle.places.specs.Placing.{Spot}
 use Rattle.special.specs.Performing.{psw_in, Performs, WithControls}
 use Rattle.special.proofs.Leaving.{past_psw}
@@ -37,8 +37,8 @@ abbrev pub Moves : Psw → Psw → Type 0
 Moves psw later = (c : Cpu) → c.psw ≡ psw → later ≡ (advanced c 2).psw
 
 -- only its words change
-pub moved : (psw later : Psw) → Moves psw later → (r : Single) → r.left ≡ later.left → r.right ≡ later.right → Moves psw (psw_in r psw)
-moved psw later moves r left right c same = past_psw psw later 2 moves r left right ∙ moves c same
+pub moved : (psw later : Psw) → Moves psw later → (d : Done) → d.left ≡ later.left → d.right ≡ later.right → Moves psw (psw_in d psw)
+moved psw later moves d left right c same = past_psw psw later 2 moves d left right ∙ moves c same
 
 -- n registers, from one that the text names to another
 module _ (kept storage control : List ℕ) (psw later : Psw) (moves : Moves psw later) (a from to n p : ℕ) (small : a < 2147483648)
@@ -68,7 +68,7 @@ module _ (kept storage control : List ℕ) (psw later : Psw) (moves : Moves psw 
       performs_fetched kept storage guard psw a h g x clock c text first second begun small (4 * n) p (omega (arith, count)) spot (ap (λ m. 4 * m) many) _
       (done_as later c.timer registers) refl
       (controls_loaded h x standing (done_as later c.timer registers) later (bytes ++ take (4 * n - 4 * n) (drop 0 storage)) registers n
-      (set_none (with_registers c registers) later begun.sixteen) (λ k same. past k first begun.two (same ∙ begun.of_psw))
+      (set_unset (with_registers c registers) later) (λ k same. past k first begun.two (same ∙ begun.of_psw))
       (loaded c named.0 ∙ (λ i. with_controls c (sym named.1 i) (words_at (whole i) 0 n))) many)
 
   -- the registers, in a part of storage that was lent
@@ -87,4 +87,4 @@ module _ (kept storage control : List ℕ) (psw later : Psw) (moves : Moves psw 
       (performs-stored kept storage guard psw a h g x clock c text first second begun small (4 * n) p (omega (arith, count)) spot high part long
       (stores c named.0 ∙ (λ i. words_bytes (controls_from (sym standing.of_cpu i) (one i) (many i)))) (next x x.cpu)
       (done_as later c.timer c.control) refl
-      (set_none c later begun.sixteen ∙ past_it h x standing c later (past c first begun.two begun.of_psw) ∙ ap (next x) (sym standing.of_cpu)))
+      (set_unset c later ∙ past_it h x standing c later (past c first begun.two begun.of_psw) ∙ ap (next x) (sym standing.of_cpu)))

@@ -1,7 +1,7 @@
 // LOAD CONTROL and STORE CONTROL with an operand that stands on a kept block, by numbers.
 #![tactic(auto)]
 
-ghost use Rattle.std.specs.Prelude.{◌≡◌, ◌+◌, ◌-◌, ◌*◌, ◌%◌, ◌≤◌, ◌<◌, length};
+ghost use Rattle.std.specs.Prelude.{◌≡◌, ◌+◌, ◌-◌, ◌*◌, ◌%◌, ◌≤◌, ◌<◌, length, IfOk, IfErr};
 ghost use Rattle.machine.specs.declared.Cpu.{Cpu};
 ghost use Rattle.machine.specs.Words.{words_at, words_bytes};
 ghost use Rattle.machine.specs.Psw.{instruction_address};
@@ -11,31 +11,32 @@ ghost use Rattle.interruptions.specs.After.{with_registers};
 ghost use Rattle.psws.specs.Psws.{state, Wrapped};
 ghost use Rattle.blocks.specs.Keeping.{Inside};
 ghost use Rattle.steps.specs.Texting.{done_as};
-ghost use Rattle.special.specs.Performing.{calm, IsDone, psw_in, Near, Performs, WithControls};
+ghost use Rattle.special.specs.Performing.{Below, IfCalm, psw_in, Near, Performs, WithControls};
 
 use machine::Psw;
-use special::Single;
+use special::{Change, Done, Single, Want};
 
 // The lowest address that is stored into here: below it low-address protection may be.
 const LOW: usize = 512;
 
 // How many control registers R1 to R3 are, going up and through 15 to 0.
-fn count_of(r1: usize, r3: usize) -> usize
+pub fn count_of(r1: usize, r3: usize) -> usize
     requires { (r1 < 16) × (r3 < 16) }
     ensures { (1 ≤ result) × (result ≤ 16) × (result ≡ (r3 + (16 - r1)) % 16 + 1) }
 {
     (r3 + (16 - r1)) % 16 + 1
 }
 
-// What is wanted for n bytes that do not stand on a kept block: none, if they go over a block's end.
-fn wanted(want: u32, a: usize, n: usize, timer: u64) -> Single
-    requires { (want < calm) × (a < 2147483648) × (n ≤ 2048) }
-    ensures { (result.want < calm) × (result.timer ≡ timer) × (result.a < 2147483648) }
+// What is wanted for n bytes that do not stand on a kept block: unit, if they go over a block's end.
+fn wanted(want: Want, a: usize, n: usize) -> Want
+    requires { Below want × (a < 2147483648) × (n ≤ 2048) }
+    ensures { Below result }
 {
     if a % 2048 + n > 2048 {
-        return special::wanting(special::OTHER, 0, timer);
+        Want::Other
+    } else {
+        want
     }
-    special::wanting(want, a as u32, timer)
 }
 
 // n words, put into the control registers from register i on, through 15 to 0.
@@ -44,12 +45,8 @@ fn load_words(control: &mut [u32; 16], bytes: &[u8], i: usize, n: usize)
     ensures { Sixteen control.new × ((c : Cpu) → c.control.words ≡ control.old
         → with_registers c (record { words = control.new }) ≡ with_controls c i (words_at bytes.now 0 n)) }
 {
-    let mut at = i;
-    let mut k = 0;
-    while k < n {
-        control[at] = words::word_at(bytes, 4 * k);
-        at = (at + 1) % 16;
-        k += 1;
+    for k in 0..n {
+        control[(i + k) % 16] = words::word_at(bytes, 4 * k);
     }
 }
 
@@ -58,12 +55,8 @@ fn store_words(part: &mut [u8], control: &[u32; 16], i: usize, n: usize)
     requires { (i < 16) × (n ≤ 16) × (length part.old ≡ 4 * n) }
     ensures { (c : Cpu) → c.control.words ≡ control.now → part.new ≡ words_bytes (controls_from c i n) }
 {
-    let mut at = i;
-    let mut k = 0;
-    while k < n {
-        words::put_word(part, 4 * k, control[at]);
-        at = (at + 1) % 16;
-        k += 1;
+    for k in 0..n {
+        words::put_word(part, 4 * k, control[(i + k) % 16]);
     }
 }
 
@@ -79,19 +72,19 @@ pub fn load_control(
     r3: usize,
 ) -> Single
     requires { Inside storage.now kept.now × Sixteen control.old × (a < 2147483648) × (r1 < 16) × (r3 < 16) }
-    ensures performs { IsDone result → Performs kept.now psw a storage.now (WithControls control.old r1 r3) load_control
-        (λ c. done_as (psw_in result psw) c.timer (record { words = control.new })) storage.now }
-    ensures sixteen { Sixteen control.new × (result.want < calm → control.new ≡ control.old) }
-    ensures timer_value { (result.timer ≡ timer) × (result.a < 2147483648) × (result.want ≡ calm → Near psw (psw_in result psw) × (control.new ≡ control.old)) }
+    ensures performs { IfOk result (λ d. Performs kept.now psw a storage.now (WithControls control.old r1 r3) load_control
+        (λ c. done_as (psw_in d psw) c.timer (record { words = control.new })) storage.now
+        × (d.timer ≡ timer) × IfCalm d.change (Near psw (psw_in d psw) × (control.new ≡ control.old))) }
+    ensures wants { IfErr result (λ w. (control.new ≡ control.old) × Below w) }
+    ensures sixteen { Sixteen control.new }
 {
     let n = count_of(r1, r3);
-    let p = places::fetch_place(kept, a, 4 * n);
-    if p >= places::NOWHERE {
-        return wanted(special::FETCH, a, 4 * n, timer);
-    }
+    let Some(p) = places::fetch_place(kept, a, 4 * n) else {
+        return Err(wanted(Want::Fetch(a as u32), a, 4 * n));
+    };
     let end = p + 4 * n;
     load_words(control, &storage[p..end], r1, n);
-    special::done(special::CHANGED, cpu::advanced(psw, 2), timer)
+    Ok(Done::leaving(Change::Changed, cpu::advanced(psw, 2), timer))
 }
 
 // STORE CONTROL (STCTL).
@@ -106,20 +99,19 @@ pub fn store_control(
     r3: usize,
 ) -> Single
     requires { Inside storage.old kept.now × Sixteen control.now × (a < 2147483648) × (r1 < 16) × (r3 < 16) }
-    ensures performs { IsDone result → Performs kept.now psw a storage.old (WithControls control.now r1 r3) store_control
-        (λ c. done_as (psw_in result psw) c.timer c.control) storage.new }
-    ensures storage_unchanged { result.want < calm → storage.new ≡ storage.old }
-    ensures timer_value { (result.timer ≡ timer) × (result.a < 2147483648) × (result.want ≡ calm → Wrapped psw (instruction_address (state psw)) → Near psw (psw_in result psw)) }
+    ensures performs { IfOk result (λ d. Performs kept.now psw a storage.old (WithControls control.now r1 r3) store_control
+        (λ c. done_as (psw_in d psw) c.timer c.control) storage.new
+        × (d.timer ≡ timer) × IfCalm d.change (Wrapped psw (instruction_address (state psw)) → Near psw (psw_in d psw))) }
+    ensures wants { IfErr result (λ w. (storage.new ≡ storage.old) × Below w) }
 {
     let n = count_of(r1, r3);
-    let p = places::store_place(kept, a, 4 * n);
-    if p >= places::NOWHERE {
-        return wanted(special::STORE, a, 4 * n, timer);
-    }
+    let Some(p) = places::store_place(kept, a, 4 * n) else {
+        return Err(wanted(Want::Store(a as u32), a, 4 * n));
+    };
     if a < LOW {
-        return special::wanting(special::OTHER, 0, timer);
+        return Err(Want::Other);
     }
     let end = p + 4 * n;
     store_words(&mut storage[p..end], control, r1, n);
-    special::done(special::CALM, cpu::advanced(psw, 2), timer)
+    Ok(Done::leaving(Change::Calm, cpu::advanced(psw, 2), timer))
 }

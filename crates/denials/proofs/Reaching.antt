@@ -1,5 +1,6 @@
 -- An instruction whose operand is denied at its first byte ends with the exception.
 -- Assumes nothing.
+use Rattle.std.specs.Prelude.{Err}
 use Prim.Native.Nat.{ℕ, ◌+◌, ◌*◌, ◌≤◌, ◌<◌}
 use native.Mathlib.Omega.{arith}
 use mathlib.Core.Path.{◌≡◌, refl, ap, sym, subst, ◌∙◌}
@@ -22,9 +23,7 @@ use Rattle.machine.specs.Outcomes.{Progress}
 use Rattle.machine.specs.Interruptions.{exception}
 use Rattle.machine.specs.Execute.{r1, operand_address, indexed_address, fetching, storing, range_count, execute, store, load, load_psw, store_control, load_control, store_clock, set_timer, store_timer}
 use Rattle.machine.proofs.Tests.{on_either_arm}
-use Rattle.address.specs.declared.Place.TheVariants.{Denied}
 use Rattle.address.specs.Touching.{touch_of}
-use Rattle.operands.specs.declared.Operand.TheVariants.{Shut}
 use Rattle.operands.specs.Operands.{in_one_page, in_two_pages, to_page_end, operand_of}
 use Rattle.operands.proofs.Reached.{operand_code}
 use Rattle.execute.proofs.Operations.{fetching_shut, storing_shut}
@@ -32,13 +31,13 @@ use Rattle.stores.proofs.Controls.{length_controls}
 use Rattle.denials.specs.Denying.{Reaching}
 
 -- the first byte's page decides first
-pub denied_shut : (g : Guest) (h : Host) (c : Cpu) (store : Bool) (a n : ℕ) {f : Failure} → touch_of g h c store a ≡ Denied f → operand_of g h c store a n ≡ Shut f
+pub denied_shut : (g : Guest) (h : Host) (c : Cpu) (store : Bool) (a n : ℕ) {f : Failure} → touch_of g h c store a ≡ Err f → operand_of g h c store a n ≡ Err f
 unfolding operand_of in_one_page in_two_pages
 denied_shut g h c store a n {f} denied =
-    subst (λ p. cond (leb n (to_page_end a)) (in_one_page n p) (in_two_pages (to_page_end a) p (touch_of g h c store (wrap c (a + to_page_end a)))) ≡ Shut f) (sym denied)
-    (on_either_arm (λ o. o ≡ Shut f) (leb n (to_page_end a)) refl refl)
+    subst (λ p. cond (leb n (to_page_end a)) (in_one_page n p) (in_two_pages (to_page_end a) p (touch_of g h c store (wrap c (a + to_page_end a)))) ≡ Err f) (sym denied)
+    (on_either_arm (λ o. o ≡ Err f) (leb n (to_page_end a)) refl refl)
 
-pub denied_code : (g : Guest) (h : Host) (c : Cpu) (store : Bool) (a : ℕ) {f : Failure} → touch_of g h c store a ≡ Denied f → f.code < 65536
+pub denied_code : (g : Guest) (h : Host) (c : Cpu) (store : Bool) (a : ℕ) {f : Failure} → touch_of g h c store a ≡ Err f → f.code < 65536
 denied_code g h c store a denied = operand_code g h c store a 1 (denied_shut g h c store a 1 denied)
 
 -- a wrapped address of the instruction's text
@@ -67,7 +66,7 @@ module _ (psw : Psw) (general : Registers) (text : Text) (a : ℕ) where
     -- n bytes that are fetched
     fetch_denied : (h : Host) (x : Progress) (f : Failure) (n : ℕ) (after : List ℕ → Cpu) → 0 < n → n ≤ 4096
         → x.view ≡ view x.guest h → x.cpu.psw ≡ psw → x.cpu.general ≡ general → x.text ≡ text
-        → touch_of x.guest h x.cpu false a ≡ Denied f → fetching x (place x) n after ≡ exception x x.cpu f
+        → touch_of x.guest h x.cpu false a ≡ Err f → fetching x (place x) n after ≡ exception x x.cpu f
     fetch_denied h x f n after some few viewed of_psw ofGeneral of_text denied =
         ap (λ b. fetching x b n after) (sym (addresses.1 x of_psw ofGeneral of_text))
         ∙ fetching_shut h x viewed a n (addresses.0 x.cpu of_psw) some few f after (denied_shut x.guest h x.cpu false a n denied)
@@ -75,7 +74,7 @@ module _ (psw : Psw) (general : Registers) (text : Text) (a : ℕ) where
     -- and that are stored
     store-denied : (h : Host) (x : Progress) (f : Failure) (n : ℕ) (bytes : List ℕ) (to : Cpu) → length bytes ≡ n → 0 < n → n ≤ 4096
         → x.view ≡ view x.guest h → x.cpu.psw ≡ psw → x.cpu.general ≡ general → x.text ≡ text
-        → touch_of x.guest h x.cpu true a ≡ Denied f → storing x (place x) bytes to ≡ exception x x.cpu f
+        → touch_of x.guest h x.cpu true a ≡ Err f → storing x (place x) bytes to ≡ exception x x.cpu f
     store-denied h x f n bytes to long some few viewed of_psw ofGeneral of_text denied =
         ap (λ b. storing x b bytes to) (sym (addresses.1 x of_psw ofGeneral of_text))
         ∙ storing_shut h x viewed a n (addresses.0 x.cpu of_psw) some few f bytes to long (denied_shut x.guest h x.cpu true a n denied)

@@ -2,23 +2,21 @@
 // by numbers.
 #![tactic(auto)]
 
-ghost use Rattle.std.specs.Prelude.{◌≡◌, true, false, List, ℕ, ◌≤◌, ◌<◌, length};
+ghost use Rattle.std.specs.Prelude.{◌≡◌, true, false, List, ℕ, ◌≤◌, ◌<◌, length, IfOk, IfErr};
 ghost use Rattle.machine.specs.Psw.{instruction_address};
 ghost use Rattle.machine.specs.Record.{Sixteen};
 ghost use Rattle.machine.specs.Refusals.{frames_of};
 ghost use Rattle.storage.specs.Entered.{Entered};
 ghost use Rattle.psws.specs.Psws.{state};
 ghost use Rattle.blocks.specs.Keeping.{Inside};
-ghost use Rattle.lap.specs.Stepping.{flags};
 ghost use Rattle.area.specs.Keeping.{InStorage};
-ghost use Rattle.special.specs.Performing.{calm, IsDone, psw_in, Near};
+ghost use Rattle.special.specs.Performing.{Below, IfCalm, psw_in, Near};
 ghost use Rattle.special.specs.Singling.{start, SinglesIn};
 ghost use Rattle.denials.specs.Denying.{Reaching, Stopping, Denying};
 
-use address::Place;
 use dispatch::Tests;
 use machine::{Class, Failure, Guest, Opcode, Psw, Registers, Text};
-use special::Single;
+use special::{Single, Want};
 
 // The last place of a block, from its first on, that has three halfwords of the block from there on.
 const LAST: usize = 2042;
@@ -29,9 +27,7 @@ fn fetches(class: Class, psw: Psw, general: Registers, text: Text, a: u32) -> bo
 {
     match class {
         Class::L => a == cpu::indexed_address(psw, general, text),
-        Class::Lpsw => a == cpu::operand_address(psw, general, text),
-        Class::Lctl => a == cpu::operand_address(psw, general, text),
-        Class::Spt => a == cpu::operand_address(psw, general, text),
+        Class::Lpsw | Class::Lctl | Class::Spt => a == cpu::operand_address(psw, general, text),
         _ => false,
     }
 }
@@ -42,9 +38,7 @@ fn stores(class: Class, psw: Psw, general: Registers, text: Text, a: u32) -> boo
 {
     match class {
         Class::St => a == cpu::indexed_address(psw, general, text),
-        Class::Stctl => a == cpu::operand_address(psw, general, text),
-        Class::Stck => a == cpu::operand_address(psw, general, text),
-        Class::Stpt => a == cpu::operand_address(psw, general, text),
+        Class::Stctl | Class::Stck | Class::Stpt => a == cpu::operand_address(psw, general, text),
         _ => false,
     }
 }
@@ -54,9 +48,10 @@ fn reaches(class: Class, psw: Psw, general: Registers, text: Text, store: bool, 
     ensures { result ≡ true → Reaching class psw general text store a }
 {
     if store {
-        return stores(class, psw, general, text, a);
+        stores(class, psw, general, text, a)
+    } else {
+        fetches(class, psw, general, text, a)
     }
-    fetches(class, psw, general, text, a)
 }
 
 // The instruction's tests are clear, and its operand is an access of this kind that begins at this address.
@@ -76,8 +71,7 @@ fn stops(
     let tests = dispatch::tested(o, guest, psw, general, text);
     match tests {
         Tests::Clear => reaches(class, psw, general, text, store, a),
-        Tests::Excepted(_) => false,
-        Tests::Intercepted => false,
+        Tests::Excepted(_) | Tests::Intercepted => false,
     }
 }
 
@@ -95,24 +89,23 @@ fn of_operand(
     f: Failure,
 ) -> Single
     requires { Inside storage.old kept.now × Sixteen words.now × InStorage storage.old area × (f.code < 65536) × (f.host ≡ false) }
-    ensures denying { IsDone result → Denying guest psw timer words.now kept.now area store a f storage.old result storage.new }
-    ensures storage_unchanged { result.want < calm → storage.new ≡ storage.old }
-    ensures near { (result.want ≡ calm → Near psw (psw_in result psw) × (result.timer ≡ timer)) × (result.a < 2147483648) }
+    ensures denying { IfOk result (λ d. Denying guest psw timer words.now kept.now area store a f storage.old d storage.new
+        × IfCalm d.change (Near psw (psw_in d psw) × (d.timer ≡ timer))) }
+    ensures wants { IfErr result (λ w. (storage.new ≡ storage.old) × Below w) }
 {
-    let place = lap::land(kept, cpu::instruction_address(psw) as usize);
-    if !place.good {
-        return special::wanting(special::OTHER, 0, timer);
-    }
+    let Some(place) = lap::land(kept, cpu::instruction_address(psw) as usize) else {
+        return Err(Want::Other);
+    };
     if place.at > place.base + LAST {
-        return special::wanting(special::OTHER, 0, timer);
+        return Err(Want::Other);
     }
-    let first = words::half_at(storage, place.at);
+    let first = words::half_at(storage, place.at) as u32;
     let o = decode::decode(psw.system370, first);
     let ilc = o.length;
     let text = exceptions::text_at(storage, place.at, ilc, first);
     let general = Registers { words: *words };
     if !stops(o, guest, psw, general, text, store, a) {
-        return special::wanting(special::OTHER, 0, timer);
+        return Err(Want::Other);
     }
     exceptions::excepted(storage, area, guest, psw, timer, ilc as u32, f)
 }
@@ -120,12 +113,12 @@ fn of_operand(
 // The fetch of the text is denied at its first byte. That of a text at an odd address is not tried.
 fn of_text(storage: &mut [u8], area: u32, guest: Guest, psw: Psw, timer: u64, f: Failure) -> Single
     requires { InStorage storage.old area × (f.code < 65536) × (f.host ≡ false) }
-    ensures by_index { IsDone result → ((words kept : List ℕ) → Sixteen words → Denying guest psw timer words kept area false (instruction_address (state psw)) f storage.old result storage.new) }
-    ensures storage_unchanged { result.want < calm → storage.new ≡ storage.old }
-    ensures near { (result.want ≡ calm → Near psw (psw_in result psw) × (result.timer ≡ timer)) × (result.a < 2147483648) }
+    ensures denying { IfOk result (λ d. ((words kept : List ℕ) → Sixteen words → Denying guest psw timer words kept area false (instruction_address (state psw)) f storage.old d storage.new)
+        × IfCalm d.change (Near psw (psw_in d psw) × (d.timer ≡ timer))) }
+    ensures wants { IfErr result (λ w. (storage.new ≡ storage.old) × Below w) }
 {
     if cpu::instruction_address(psw) % 2 == 1 {
-        return special::wanting(special::OTHER, 0, timer);
+        return Err(Want::Other);
     }
     exceptions::excepted(storage, area, guest, psw, timer, 1, f)
 }
@@ -134,10 +127,7 @@ fn of_text(storage: &mut [u8], area: u32, guest: Guest, psw: Psw, timer: u64, f:
 fn is_text(psw: Psw, store: bool, a: u32) -> bool
     ensures { result ≡ true → (store ≡ false) × (a ≡ instruction_address (state psw)) }
 {
-    if store {
-        return false;
-    }
-    a == cpu::instruction_address(psw)
+    !store && a == cpu::instruction_address(psw)
 }
 
 // An access of the unit is denied.
@@ -154,12 +144,12 @@ fn denied(
     f: Failure,
 ) -> Single
     requires { Inside storage.old kept.now × Sixteen words.now × InStorage storage.old area × (f.code < 65536) }
-    ensures denying { IsDone result → Denying guest psw timer words.now kept.now area store a f storage.old result storage.new }
-    ensures storage_unchanged { result.want < calm → storage.new ≡ storage.old }
-    ensures near { (result.want ≡ calm → Near psw (psw_in result psw) × (result.timer ≡ timer)) × (result.a < 2147483648) }
+    ensures denying { IfOk result (λ d. Denying guest psw timer words.now kept.now area store a f storage.old d storage.new
+        × IfCalm d.change (Near psw (psw_in d psw) × (d.timer ≡ timer))) }
+    ensures wants { IfErr result (λ w. (storage.new ≡ storage.old) × Below w) }
 {
     if f.host {
-        return special::wanting(special::OTHER, 0, timer);
+        return Err(Want::Other);
     }
     if is_text(psw, store, a) {
         return of_text(storage, area, guest, psw, timer, f);
@@ -174,7 +164,6 @@ pub fn unit(
     keys: &[u8],
     control: &[u32; 16],
     words: &[u32; 16],
-    ones: &[u32; 16],
     kept: &[u32; 32],
     area: u32,
     designation: u32,
@@ -185,15 +174,15 @@ pub fn unit(
     a: u32,
 ) -> Single
     requires entered { Entered guest × (frames_of storage.old ≤ length keys.now) × (a < 2147483648) }
-    requires inside { Inside storage.old kept.now × (ones.now ≡ flags) × Sixteen words.now × Sixteen control.now × InStorage storage.old area }
-    ensures by_index { IsDone result → ((clock : ℕ) → SinglesIn designation keys.now guest clock (start psw timer words.now control.now) kept.now area storage.old result control.now storage.new) }
-    ensures storage_unchanged { result.want < calm → storage.new ≡ storage.old }
-    ensures near { (result.want ≡ calm → Near psw (psw_in result psw) × (result.timer ≡ timer)) × (result.a < 2147483648) }
+    requires inside { Inside storage.old kept.now × Sixteen words.now × Sixteen control.now × InStorage storage.old area }
+    ensures singles { IfOk result (λ d. ((clock : ℕ) → SinglesIn designation keys.now guest clock (start psw timer words.now control.now) kept.now area storage.old d control.now storage.new)
+        × IfCalm d.change (Near psw (psw_in d psw) × (d.timer ≡ timer))) }
+    ensures wants { IfErr result (λ w. (storage.new ≡ storage.old) × Below w) }
 {
     let registers = Registers { words: *control };
     let place = address::touch(storage, keys, designation, guest, psw, registers, store, a);
     match place {
-        Place::At(_) => special::wanting(special::OTHER, 0, timer),
-        Place::Denied(f) => denied(storage, words, kept, area, guest, psw, timer, store, a, f),
+        Ok(_) => Err(Want::Other),
+        Err(f) => denied(storage, words, kept, area, guest, psw, timer, store, a, f),
     }
 }

@@ -1,4 +1,5 @@
 -- DEMAND 3 over a sequence of calls: the proof of `IsolationOfCalls`.
+use Rattle.std.specs.Prelude.{Err, Ok}
 use Prim.Native.Nat.{ℕ, ◌*◌, ◌+◌, ◌/◌, ◌<◌}
 use native.Mathlib.Omega.{arith}
 use mathlib.Core.Path.{◌≡◌, refl, sym, ap, ◌∙◌}
@@ -7,12 +8,10 @@ use mathlib.Core.List.{List, [], ◌∷◌}
 use lib.ListN.{get_or}
 use Rattle.machine.specs.declared.Guest.{Guest}
 use Rattle.machine.specs.declared.Numbers.{Numbers}
-use Rattle.machine.specs.declared.Verdict.{Verdict}
-use Rattle.machine.specs.declared.Verdict.TheVariants as verdict
 use Rattle.machine.specs.Words.{byte_at}
 use Rattle.machine.specs.Record.{guest_of}
 use Rattle.machine.specs.Sizes.{frame_bytes}
-use Rattle.machine.specs.Refusals.{run_verdict}
+use Rattle.machine.specs.Refusals.{run_verdict, Verdict}
 use Rattle.machine.specs.Entry.{entry_good}
 use Rattle.machine.specs.Frames.{InExtent}
 use Rattle.machine.specs.Operations.{run_of}
@@ -34,8 +33,8 @@ frame_or_not : {P : Type 0} (n : Numbers) (r s k : List ℕ) (f : ℕ) → (RunF
 frame_or_not {P} n r s k f is isNot = by_verdict (run_verdict n r s k) refl
   where
     by_verdict : (v : Verdict) → run_verdict n r s k ≡ v → P
-    by_verdict (verdict.Refused refusal) e = isNot λ h. let accepted = h.accepted in let z : ◌≡◌ {A = ℕ} 0 1 = cc in omega arith
-    by_verdict verdict.Accepted accepted =
+    by_verdict (Err refusal) e = isNot λ h. let accepted = h.accepted in let z : ◌≡◌ {A = ℕ} 0 1 = cc in omega arith
+    by_verdict (Ok _) accepted =
         true_or_false P (entry_good (guest_of r))
         (λ good.
         let frame = tests_are_the_terms.frame (guest_of r) n.designation s f good in

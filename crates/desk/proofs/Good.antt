@@ -5,10 +5,8 @@ use mathlib.Core.Bool.{Bool, true, false}
 use mathlib.Core.List.{List}
 use borrow.Author.Tests.{eqb-true, eqb-false, lt-leb, le-ltb}
 use lib.Dec.{lit≤}
-use Rattle.machine.specs.declared.Verdict.{Verdict}
-use Rattle.machine.specs.declared.Verdict.TheVariants.{Accepted}
 use Rattle.machine.specs.Record.{guest_of}
-use Rattle.machine.specs.Refusals.{frames_of, translate_verdict, wrong_access}
+use Rattle.machine.specs.Refusals.{frames_of, translate_verdict, wrong_access, Verdict, no_refusal}
 use Rattle.machine.specs.Frames.{ValidPage}
 use Rattle.machine.specs.Theorems.{GoodInput}
 use Rattle.machine.proofs.Accepted.{good_input_is_accepted}
@@ -26,7 +24,7 @@ pub not_true_is_false : (b : Bool) → (b ≡ true → ⊥) → b ≡ false
 not_true_is_false true h = absurd (h refl)
 not_true_is_false false h = refl
 
-pub input_accepted : (r s k : List ℕ) → GoodInput r s k → desk_verdict r s k ≡ Accepted
+pub input_accepted : (r s k : List ℕ) → GoodInput r s k → desk_verdict r s k ≡ no_refusal
 unfolding desk_verdict translate_verdict wrong_access
 input_accepted r s k good = good_input_is_accepted.by_translate r s k 0 good (lit≤ tt)
 
@@ -58,7 +56,7 @@ module _ (c : Change) (r : List ℕ) (d : ℕ) (s : List ℕ) (p : ℕ) (good : 
             good.no_segment q found.0 (segment_in_reach d s _ near) (eqb-true _ _ is)),
       )
 
-  change_accepted : change_verdict c (first_page (guest_of r)) (page_count (guest_of r)) d s p ≡ Accepted
+  change_accepted : change_verdict c (first_page (guest_of r)) (page_count (guest_of r)) d s p ≡ no_refusal
   unfolding change_verdict out_of_reach
   change_accepted =
       rw (lt-leb (page_count (guest_of r)) p good.inside, page-reached d s (first_page (guest_of r) + p) good.reach)

@@ -1,5 +1,6 @@
 -- What a call keeps of one host: its lengths, the entries that describe the extent where they were, its guest frames within `Frames` and
 -- apart from those entries, and every byte and key beside them.
+use Rattle.std.specs.Prelude.{Ok}
 use Prim.Native.Nat.{ℕ, ◌+◌, ◌/◌, ◌≤◌, ◌<◌}
 use mathlib.Core.Path.{◌≡◌, refl, sym, ap, ◌∙◌, subst}
 use mathlib.Core.Bool.{true}
@@ -115,7 +116,7 @@ module _ (g : Guest) (d : ℕ) (Frames : ℕ → Type 0) where
 
   -- a guest frame by the page that was changed
   own_frame : (c : Change) (r s k : List ℕ) (p number : ℕ) → Serves g d Frames (changes c r p number) → Sound g d Frames s
-      → (desk_of c r d s k p number).answer ≡ Done → (f : ℕ) (h : GuestFrame g d (desk_of c r d s k p number).storage f) → h.page ≡ host_of r p → Frames f
+      → (desk_of c r d s k p number).answer ≡ (Ok Done) → (f : ℕ) (h : GuestFrame g d (desk_of c r d s k p number).storage f) → h.page ≡ host_of r p → Frames f
   unfolding Serves
   own_frame (Add frame) r s k p number serves sound done f h here =
       let says = calls_do_what_they_say.adding frame r d s k p number done in
@@ -129,7 +130,7 @@ module _ (g : Guest) (d : ℕ) (Frames : ℕ → Type 0) where
       (frame_too g d s _ (sym (calls_change_one_entry Protect r d s k p number).long) f h (rw here says.0) (rw here (sym says.1.1.0)))
 
   module _ (good : entry_good g ≡ true) (c : Change) (r : List ℕ) (p number : ℕ) (serves : Serves g d Frames (changes c r p number))
-      (s k : List ℕ) (sound : Sound g d Frames s) (done : (desk_of c r d s k p number).answer ≡ Done) where
+      (s k : List ℕ) (sound : Sound g d Frames s) (done : (desk_of c r d s k p number).answer ≡ (Ok Done)) where
     abbrev t : List ℕ
     t = (desk_of c r d s k p number).storage
 

@@ -1,4 +1,5 @@
 -- A listing that is done shows the extent's pages; every other answer leaves the workspace.
+use Rattle.std.specs.Prelude.{Err, Ok}
 use Prim.Native.Nat.{ℕ, zero, suc, ◌≤◌, ◌<◌}
 use native.Mathlib.Omega.{arith}
 use mathlib.Core.Path.{◌≡◌, refl, ◌∙◌}
@@ -7,8 +8,8 @@ use borrow.Author.Tests.{ltb-false, eqb-true, eqb-false}
 use lib.Dec.{eqb, ltb}
 use lib.ListN.{length, get_or, length-set}
 use lib.Seq.{get_or-set_same, get_or-set_other}
-use Rattle.machine.specs.declared.Verdict.{Verdict}
-use Rattle.machine.specs.declared.Verdict.TheVariants as verdict
+use Rattle.machine.specs.declared.Refusal.{Refusal}
+use Rattle.machine.specs.declared.Refusal.TheVariants.{ShortWorkspace}
 use Rattle.machine.specs.Record.{guest_of}
 use Rattle.machine.specs.Entry.{entry_good}
 use Rattle.machine.proofs.Tests.{by_either_test}
@@ -18,6 +19,7 @@ use Rattle.desk.specs.Extent.{first_page, page_count, words_below, frame_listed,
 use Rattle.desk.specs.Desk.{Listing, desk_verdict, list_for, list_as, list_of}
 use Rattle.desk.specs.Theorems.{ShowsThePages, ListingsShowThePages}
 use Rattle.desk.proofs.Tables.{true_or_false}
+use Rattle.machine.specs.Refusals.{Answer, Verdict}
 
 -- words by their places in place of the first `n`
 
@@ -44,27 +46,27 @@ word_past (suc n) word ws k h = get_or-set_other (words_below n word ws) n k (wo
 module _ (r : List ℕ) (d : ℕ) (s k ws : List ℕ) where
   -- what holds where the workspace is left, and where the pages are shown, holds of the listing
   by_listing : (P : Listing → Type 0)
-      → ((answer : Listed) → ((valid : ℕ) → answer ≡ listed.Pages valid → ⊥) → P (record { answer = answer; words = ws }))
+      → ((answer : Answer Listed) → ((valid : ℕ) → answer ≡ Ok (listed.Pages valid) → ⊥) → P (record { answer = answer; words = ws }))
       → (page_count (guest_of r) ≤ length ws → P (record {
-        answer = listed.Pages (valid_pages (first_page (guest_of r)) (page_count (guest_of r)) d s);
+        answer = Ok (listed.Pages (valid_pages (first_page (guest_of r)) (page_count (guest_of r)) d s));
         words = listing (first_page (guest_of r)) (page_count (guest_of r)) d s ws;
       }))
       → P (list_of r d s k ws)
   unfolding list_of list_as list_for
   by_listing P left done = by_verdict (desk_verdict r s k)
     where
-      refused : (refusal valid : ℕ) → listed.Refused refusal ≡ listed.Pages valid → ⊥
-      refused refusal valid e = let z : ◌≡◌ {A = ℕ} 0 1 = cc in omega arith
+      refused : (why : Refusal) (valid : ℕ) → ◌≡◌ {A = Answer Listed} (Err why) (Ok (listed.Pages valid)) → ⊥
+      refused why valid e = let z : ◌≡◌ {A = ℕ} 0 1 = cc in omega arith
 
-      validity : (valid : ℕ) → listed.Validity ≡ listed.Pages valid → ⊥
+      validity : (valid : ℕ) → ◌≡◌ {A = Answer Listed} (Ok listed.Validity) (Ok (listed.Pages valid)) → ⊥
       validity valid e = let z : ◌≡◌ {A = ℕ} 0 1 = cc in omega arith
 
       by_verdict : (v : Verdict) → P (list_as r d s ws v)
-      by_verdict (verdict.Refused refusal) = left (listed.Refused refusal) (refused refusal)
-      by_verdict verdict.Accepted =
+      by_verdict (Err refusal) = left (Err refusal) (refused refusal)
+      by_verdict (Ok _) =
           by_either_test P (entry_good (guest_of r))
-          (λ _. by_either_test P (ltb (length ws) (page_count (guest_of r))) (λ _. left (listed.Refused 15) (refused 15)) (λ enough. done (ltb-false _ _ enough)))
-          (λ _. left listed.Validity validity)
+          (λ _. by_either_test P (ltb (length ws) (page_count (guest_of r))) (λ _. left (Err ShortWorkspace) (refused ShortWorkspace)) (λ enough. done (ltb-false _ _ enough)))
+          (λ _. left (Ok listed.Validity) validity)
 
   -- all that is known of a listing with this number and these words
   abbrev Shown : ℕ → List ℕ → Type 0
@@ -73,12 +75,12 @@ module _ (r : List ℕ) (d : ℕ) (s k ws : List ℕ) where
       × ((valid ≡ valid_pages (first_page (guest_of r)) (page_count (guest_of r)) d s)
       × (words ≡ listing (first_page (guest_of r)) (page_count (guest_of r)) d s ws))
 
-  shows : (valid : ℕ) → (list_of r d s k ws).answer ≡ listed.Pages valid → Shown valid (list_of r d s k ws).words
+  shows : (valid : ℕ) → (list_of r d s k ws).answer ≡ Ok (listed.Pages valid) → Shown valid (list_of r d s k ws).words
   shows valid =
-      by_listing (λ x. x.answer ≡ listed.Pages valid → Shown valid x.words) (λ _ other e. absurd (other valid e))
+      by_listing (λ x. x.answer ≡ Ok (listed.Pages valid) → Shown valid x.words) (λ _ other e. absurd (other valid e))
       (λ enough e. (enough, (cc, refl)))
 
-  shows_the_pages : (valid : ℕ) → (list_of r d s k ws).answer ≡ listed.Pages valid → ShowsThePages r d s k ws valid
+  shows_the_pages : (valid : ℕ) → (list_of r d s k ws).answer ≡ Ok (listed.Pages valid) → ShowsThePages r d s k ws valid
   unfolding listing frame_listed
   shows_the_pages valid e =
       let (enough, (number, words)) = shows valid e in
@@ -94,5 +96,5 @@ module _ (r : List ℕ) (d : ℕ) (s k ws : List ℕ) where
 pub listings_show_the_pages : ListingsShowThePages
 listings_show_the_pages = record {
   done = shows_the_pages;
-  refused = λ r d s k ws. by_listing r d s k ws (λ x. ((valid : ℕ) → x.answer ≡ listed.Pages valid → ⊥) → x.words ≡ ws) (λ _ _ _. refl) (λ _ other. absurd (other _ refl));
+  refused = λ r d s k ws. by_listing r d s k ws (λ x. ((valid : ℕ) → x.answer ≡ Ok (listed.Pages valid) → ⊥) → x.words ≡ ws) (λ _ _ _. refl) (λ _ other. absurd (other _ refl));
 }

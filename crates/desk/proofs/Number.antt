@@ -1,4 +1,5 @@
 -- The number of valid pages stays true over every call.
+use Rattle.std.specs.Prelude.{Ok}
 use Prim.Native.Nat.{ℕ, zero, suc, ◌+◌, ◌^◌, ◌≤◌, ◌<◌}
 use native.Mathlib.Omega.{arith}
 use mathlib.Core.Path.{◌≡◌, sym, ◌∙◌}
@@ -53,11 +54,11 @@ module _ (r : List ℕ) (d : ℕ) (s k : List ℕ) (p number : ℕ) where
   few good t = omega (arith, (entry-placed (guest_of r) good).sum, count_bound (page_count (guest_of r)) (λ q. page_valid d t (host_of r q)))
 
   -- the other pages are valid or not, as before
-  others : (c : Change) → (desk_of c r d s k p number).answer ≡ Done → (q : ℕ) → q < page_count (guest_of r) → (q ≡ p → ⊥)
+  others : (c : Change) → (desk_of c r d s k p number).answer ≡ (Ok Done) → (q : ℕ) → q < page_count (guest_of r) → (q ≡ p → ⊥)
       → page_valid d s (host_of r q) ≡ page_valid d (desk_of c r d s k p number).storage (host_of r q)
   others c done q below other = sym ((calls_do_what_they_say.others c r d s k p number done).valid q below other)
 
-  after-done : (c : Change) → (desk_of c r d s k p number).answer ≡ Done → number ≡ valid s → (desk_of c r d s k p number).number ≡ valid (desk_of c r d s k p number).storage
+  after-done : (c : Change) → (desk_of c r d s k p number).answer ≡ (Ok Done) → number ≡ valid s → (desk_of c r d s k p number).number ≡ valid (desk_of c r d s k p number).storage
   unfolding valid_pages number_after
   after-done (Add frame) done e =
       let h = done_of (Add frame) r d s k p number done in

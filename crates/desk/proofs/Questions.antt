@@ -1,4 +1,5 @@
 -- The proofs of specs/Questions.
+use Rattle.std.specs.Prelude.{Err, Ok}
 use Prim.Native.Nat.{ℕ, ◌≤◌, ◌<◌}
 use native.Mathlib.Omega.{arith}
 use mathlib.Core.Path.{◌≡◌, refl, sym, ◌∙◌}
@@ -8,8 +9,8 @@ use mathlib.Core.Logic.{⊎_elim}
 use borrow.Author.Tests.{ltb-true, ltb-false, eqb-true, eqb-false}
 use lib.Dec.{eqb, ltb}
 use lib.ListN.{get_or}
-use Rattle.machine.specs.declared.Verdict.{Verdict}
-use Rattle.machine.specs.declared.Verdict.TheVariants as verdict
+use Rattle.machine.specs.declared.Refusal.TheVariants.{WrongRange}
+use Rattle.machine.specs.declared.Refusal.{Refusal}
 use Rattle.machine.specs.Record.{guest_of}
 use Rattle.machine.specs.Entry.{entry_good}
 use Rattle.machine.specs.Walk.{frame_of}
@@ -19,7 +20,7 @@ use Rattle.desk.specs.declared.Change.TheVariants.{Add}
 use Rattle.desk.specs.declared.Called.TheVariants.{Done}
 use Rattle.desk.specs.declared.Listed.TheVariants.{Pages}
 use Rattle.desk.specs.declared.Found.{Found}
-use Rattle.desk.specs.declared.Found.TheVariants.{Refused, Validity, None, Page}
+use Rattle.desk.specs.declared.Found.TheVariants.{Validity, None, Page}
 use Rattle.desk.specs.Reach.{page_valid}
 use Rattle.desk.specs.Extent.{first_page, page_count, not_valid}
 use Rattle.desk.specs.Desk.{desk_verdict, desk_of, list_of}
@@ -33,26 +34,27 @@ use Rattle.desk.proofs.Listings.{listings_show_the_pages}
 use Rattle.desk.proofs.Describing.{in_extent, segment-describes, page-describes}
 use Rattle.desk.proofs.Surveys.{AllPass, FirstFails, by_pages, survey_none, survey_page, range_of_right, right_range}
 use Rattle.desk.proofs.Replies.{same_lengths_verdict, same_question}
+use Rattle.machine.specs.Refusals.{Answer, Verdict, no_refusal}
 
-refused_not_none : (number : ℕ) → Refused number ≡ None → ⊥
-refused_not_none number e = let z : ◌≡◌ {A = ℕ} 0 1 = cc in omega arith
+refused_not_none : (why : Refusal) → ◌≡◌ {A = Answer Found} (Err why) (Ok None) → ⊥
+refused_not_none why e = let z : ◌≡◌ {A = ℕ} 0 1 = cc in omega arith
 
-refused_not_page : (number p : ℕ) → Refused number ≡ Page p → ⊥
-refused_not_page number p e = let z : ◌≡◌ {A = ℕ} 0 1 = cc in omega arith
+refused_not_page : (why : Refusal) (p : ℕ) → ◌≡◌ {A = Answer Found} (Err why) (Ok (Page p)) → ⊥
+refused_not_page why p e = let z : ◌≡◌ {A = ℕ} 0 1 = cc in omega arith
 
-validity_not_none : Validity ≡ None → ⊥
+validity_not_none : ◌≡◌ {A = Answer Found} (Ok Validity) (Ok None) → ⊥
 validity_not_none e = let z : ◌≡◌ {A = ℕ} 0 1 = cc in omega arith
 
-validity_not_page : (p : ℕ) → Validity ≡ Page p → ⊥
+validity_not_page : (p : ℕ) → ◌≡◌ {A = Answer Found} (Ok Validity) (Ok (Page p)) → ⊥
 validity_not_page p e = let z : ◌≡◌ {A = ℕ} 0 1 = cc in omega arith
 
-none_not_page : (p : ℕ) → None ≡ Page p → ⊥
+none_not_page : (p : ℕ) → ◌≡◌ {A = Answer Found} (Ok None) (Ok (Page p)) → ⊥
 none_not_page p e = let z : ◌≡◌ {A = ℕ} 0 1 = cc in omega arith
 
-page_not_none : (p : ℕ) → Page p ≡ None → ⊥
+page_not_none : (p : ℕ) → ◌≡◌ {A = Answer Found} (Ok (Page p)) (Ok None) → ⊥
 page_not_none p e = none_not_page p (sym e)
 
-one_page : (p q : ℕ) → Page p ≡ Page q → p ≡ q
+one_page : (p q : ℕ) → ◌≡◌ {A = Answer Found} (Ok (Page p)) (Ok (Page q)) → p ≡ q
 one_page p q e = cc
 
 module _ (r : List ℕ) (d : ℕ) (s k : List ℕ) (from to : ℕ) where
@@ -67,8 +69,8 @@ module _ (r : List ℕ) (d : ℕ) (s k : List ℕ) (from to : ℕ) where
     inside : to ≤ page_count (guest_of r)
 
   -- what holds of a refusal and of code 32, and of each answer of the survey, holds of the question's
-  by_question : (P : Found → Type 0) → ((number : ℕ) → P (Refused number)) → P Validity → (LetThrough → AllPass valid from to → P None)
-      → (LetThrough → (p : ℕ) → FirstFails valid from to p → P (Page p)) → P (unbacked_of r d s k from to)
+  by_question : (P : Answer Found → Type 0) → ((why : Refusal) → P (Err why)) → P (Ok Validity) → (LetThrough → AllPass valid from to → P (Ok None))
+      → (LetThrough → (p : ℕ) → FirstFails valid from to p → P (Ok (Page p))) → P (unbacked_of r d s k from to)
   unfolding unbacked_of unbacked_as unbacked_for
   by_question P refused validity none some = by_verdict (desk_verdict r s k)
     where
@@ -80,24 +82,24 @@ module _ (r : List ℕ) (d : ℕ) (s k : List ℕ) (from to : ℕ) where
           by_pages (first_page (guest_of r)) d s from to order P (none through) (some through)
 
       by_verdict : (v : Verdict) → P (unbacked_as r d s from to v)
-      by_verdict (verdict.Refused number) = refused number
-      by_verdict verdict.Accepted =
+      by_verdict (Err number) = refused number
+      by_verdict (Ok _) =
           by_either_test P (entry_good (guest_of r))
-          (λ good. by_either_test P (wrong_range (page_count (guest_of r)) from to) (λ _. refused 16) (surveyed good))
+          (λ good. by_either_test P (wrong_range (page_count (guest_of r)) from to) (λ _. refused WrongRange) (surveyed good))
           (λ _. validity)
 
-  none_given : unbacked_of r d s k from to ≡ None → LetThrough × AllPass valid from to
+  none_given : unbacked_of r d s k from to ≡ (Ok None) → LetThrough × AllPass valid from to
   none_given =
-      by_question (λ x. x ≡ None → LetThrough × AllPass valid from to) (λ number e. absurd (refused_not_none number e))
+      by_question (λ x. x ≡ (Ok None) → LetThrough × AllPass valid from to) (λ number e. absurd (refused_not_none number e))
       (λ e. absurd (validity_not_none e)) (λ through all _. (through, all)) (λ _ p _ e. absurd (page_not_none p e))
 
-  page-given : (p : ℕ) → unbacked_of r d s k from to ≡ Page p → LetThrough × FirstFails valid from to p
+  page-given : (p : ℕ) → unbacked_of r d s k from to ≡ Ok (Page p) → LetThrough × FirstFails valid from to p
   page-given p =
-      by_question (λ x. x ≡ Page p → LetThrough × FirstFails valid from to p) (λ number e. absurd (refused_not_page number p e))
+      by_question (λ x. x ≡ Ok (Page p) → LetThrough × FirstFails valid from to p) (λ number e. absurd (refused_not_page number p e))
       (λ e. absurd (validity_not_page p e)) (λ _ _ e. absurd (none_not_page p e)) (λ through q h e. (through, rw (one_page q p e) at h))
 
   -- the answer to a question that is let through
-  answered : desk_verdict r s k ≡ verdict.Accepted → LetThrough
+  answered : desk_verdict r s k ≡ no_refusal → LetThrough
       → unbacked_of r d s k from to ≡ lowest (unbacked_in (first_page (guest_of r)) d s from to)
   unfolding unbacked_of unbacked_as unbacked_for
   answered right through = rw (right, through.good, right_range (page_count (guest_of r)) from to through.order through.inside)
@@ -151,14 +153,14 @@ answers-agree_with_listings = record {
       );
 }
   where
-    backed : (r : List ℕ) (d : ℕ) (s k ws : List ℕ) (valid : ℕ) → (list_of r d s k ws).answer ≡ Pages valid → (q : ℕ) → q < page_count (guest_of r)
+    backed : (r : List ℕ) (d : ℕ) (s k ws : List ℕ) (valid : ℕ) → (list_of r d s k ws).answer ≡ Ok (Pages valid) → (q : ℕ) → q < page_count (guest_of r)
         → page_valid d s (host_of r q) ≡ true → get_or (list_of r d s k ws).words q 0 ≡ not_valid → ⊥
     backed r d s k ws valid done q below v is =
         frame_shown (page_of d s (host_of r q)) (sym ((listings_show_the_pages.done r d s k ws valid done).shown q below v) ∙ is)
 
 -- once the page is added
-module _ (frame : ℕ) (r : List ℕ) (d : ℕ) (s k : List ℕ) (from to p number : ℕ) (found : unbacked_of r d s k from to ≡ Page p)
-    (done : (desk_of (Add frame) r d s k p number).answer ≡ Done) where
+module _ (frame : ℕ) (r : List ℕ) (d : ℕ) (s k : List ℕ) (from to p number : ℕ) (found : unbacked_of r d s k from to ≡ Ok (Page p))
+    (done : (desk_of (Add frame) r d s k p number).answer ≡ (Ok Done)) where
   abbrev after : List ℕ
   after = (desk_of (Add frame) r d s k p number).storage
 

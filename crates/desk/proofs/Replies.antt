@@ -1,4 +1,5 @@
 -- Two storages of one length that have the same entries of an extent: a call of the desk answers alike, and writes alike.
+use Rattle.std.specs.Prelude.{Err, Ok}
 use Prim.Native.Nat.{ℕ, ◌+◌, ◌-◌, ◌≤◌, ◌<◌}
 use native.Mathlib.Omega.{arith}
 use mathlib.Core.Path.{◌≡◌, refl, sym, ap, ◌∙◌}
@@ -8,11 +9,9 @@ use borrow.Author.Tests.{leb-false, not-false}
 use lib.Dec.{leb}
 use lib.ListN.{length}
 use lib.Seq.{sets}
-use Rattle.machine.specs.declared.Verdict.{Verdict}
-use Rattle.machine.specs.declared.Verdict.TheVariants as verdict
 use Rattle.machine.specs.Words.{byte_at, word_bytes}
 use Rattle.machine.specs.Record.{guest_of}
-use Rattle.machine.specs.Refusals.{wrong_storage, wrong_keys}
+use Rattle.machine.specs.Refusals.{wrong_storage, wrong_keys, Answer, Verdict}
 use Rattle.machine.specs.Entry.{entry_good}
 use Rattle.machine.specs.Frames.{page_place, page_of}
 use Rattle.machine.proofs.Laws.{get_d_sets_beside, get_d_sets-inside}
@@ -121,7 +120,7 @@ pub record SameOutcome (s t : List ℕ) (x y : Result) : Type 0 where
   pub number : x.number ≡ y.number
   pub bytes : (i : ℕ) → byte_at s i ≡ byte_at t i → byte_at x.storage i ≡ byte_at y.storage i
 
-unchanged-alike : (s t : List ℕ) (answer : Called) (number : ℕ) → SameOutcome s t (unchanged answer s number) (unchanged answer t number)
+unchanged-alike : (s t : List ℕ) (answer : Answer Called) (number : ℕ) → SameOutcome s t (unchanged answer s number) (unchanged answer t number)
 unchanged-alike s t answer number = record { answer = refl; number = refl; bytes = λ i e. e }
 
 on_one_test : {A : Type 0} (P : A → A → Type 0) (b : Bool) {u u' v v' : A} → P u u' → P v v' → P (cond b u v) (cond b u' v')
@@ -144,9 +143,9 @@ module _ (r : List ℕ) (d : ℕ) (s k t l : List ℕ) (lengths : (length s ≡ 
     where
       by_verdict : (v : Verdict) → change_verdict c (first_page (guest_of r)) (page_count (guest_of r)) d s p ≡ v
           → SameOutcome s t (change_as c d s (first_page (guest_of r) + p) number v) (change_as c d t (first_page (guest_of r) + p) number v)
-      by_verdict (verdict.Refused refusal) e = unchanged-alike s t (called.Refused refusal) number
-      by_verdict verdict.Accepted e =
-          let (inside, reached) = neither (leb (page_count (guest_of r)) p) _ (accepted_test 10 (out_of_reach (first_page (guest_of r)) (page_count (guest_of r)) d s p) _ e).0 in
+      by_verdict (Err refusal) e = unchanged-alike s t (Err refusal) number
+      by_verdict (Ok _) e =
+          let (inside, reached) = neither (leb (page_count (guest_of r)) p) _ (accepted_test _ (out_of_reach (first_page (guest_of r)) (page_count (guest_of r)) d s p) _ e).0 in
           record { answer = refl; number = refl; bytes = bytes_after _ _ d s t lengths.0 same c p (leb-false _ p inside) (not-false _ reached) }
 
   pub same_desk : (c : Change) (p number : ℕ) → SameOutcome s t (desk_of c r d s k p number) (desk_of c r d t l p number)
@@ -154,9 +153,9 @@ module _ (r : List ℕ) (d : ℕ) (s k t l : List ℕ) (lengths : (length s ≡ 
   same_desk c p number = rw (← same_desk_verdict) (by_verdict (desk_verdict r s k))
     where
       by_verdict : (v : Verdict) → SameOutcome s t (desk_as c r d s p number v) (desk_as c r d t p number v)
-      by_verdict (verdict.Refused refusal) = unchanged-alike s t (called.Refused refusal) number
-      by_verdict verdict.Accepted =
-          on_one_test (SameOutcome s t) (entry_good (guest_of r)) (same_change c p number) (unchanged-alike s t called.Validity number)
+      by_verdict (Err refusal) = unchanged-alike s t (Err refusal) number
+      by_verdict (Ok _) =
+          on_one_test (SameOutcome s t) (entry_good (guest_of r)) (same_change c p number) (unchanged-alike s t (Ok called.Validity) number)
 
   same_list_for : (ws : List ℕ) → list_for (guest_of r) d s ws ≡ list_for (guest_of r) d t ws
   unfolding list_for
@@ -169,8 +168,8 @@ module _ (r : List ℕ) (d : ℕ) (s k t l : List ℕ) (lengths : (length s ≡ 
   same_list ws = rw (← same_desk_verdict) (by_verdict (desk_verdict r s k))
     where
       by_verdict : (v : Verdict) → list_as r d s ws v ≡ list_as r d t ws v
-      by_verdict (verdict.Refused refusal) = refl
-      by_verdict verdict.Accepted = rw same_list_for
+      by_verdict (Err refusal) = refl
+      by_verdict (Ok _) = rw same_list_for
 
 -- the question for the first unbacked page, of a guest whose tables are alike where entry lets it through
 module _ (r : List ℕ) (d : ℕ) (s k t l : List ℕ) (lengths : (length s ≡ length t) × (length k ≡ length l)) (from to : ℕ) where
@@ -188,5 +187,5 @@ module _ (r : List ℕ) (d : ℕ) (s k t l : List ℕ) (lengths : (length s ≡ 
           (λ q low high. (same_tables d s t (first_page (guest_of r) + q) (same good q (omega arith))).valid))
 
       by_verdict : (v : Verdict) → unbacked_as r d s from to v ≡ unbacked_as r d t from to v
-      by_verdict (verdict.Refused number) = refl
-      by_verdict verdict.Accepted = same_where_true (entry_good (guest_of r)) _ _ _ surveyed
+      by_verdict (Err number) = refl
+      by_verdict (Ok _) = same_where_true (entry_good (guest_of r)) _ _ _ surveyed

@@ -1,4 +1,5 @@
 -- Laws of the survey for the first unbacked page.
+use Rattle.std.specs.Prelude.{Ok}
 use Prim.Native.Nat.{ℕ, zero, suc, ◌+◌, ◌≤◌, ◌<◌}
 use native.Mathlib.Omega.{arith}
 use mathlib.Core.Path.{◌≡◌, refl, ap}
@@ -12,6 +13,7 @@ use Rattle.desk.specs.Reach.{page_valid}
 use Rattle.desk.specs.Unbacked.{unbacked_from, unbacked_in, lowest, wrong_range}
 use Rattle.desk.proofs.Tables.{never_both, true_or_false}
 use Rattle.desk.proofs.Changes.{neither}
+use Rattle.machine.specs.Refusals.{Answer}
 
 -- the tests of the numbers from one up to another, each true; or the lowest number whose test is false
 
@@ -35,8 +37,8 @@ module _ (first d : ℕ) (s : List ℕ) where
       (λ e. let other : q ≡ page → ⊥ = eqb-false q page e in all q (omega arith) high)
 
   -- what holds of none where every page is valid, and of the lowest one that is not, holds of the answer
-  pub by_survey : (page n : ℕ) (P : Found → Type 0) → (AllPass valid page (page + n) → P None)
-      → ((p : ℕ) → FirstFails valid page (page + n) p → P (Page p)) → P (lowest (unbacked_from first d s page n))
+  pub by_survey : (page n : ℕ) (P : Answer Found → Type 0) → (AllPass valid page (page + n) → P (Ok None))
+      → ((p : ℕ) → FirstFails valid page (page + n) p → P (Ok (Page p))) → P (lowest (unbacked_from first d s page n))
   unfolding unbacked_from lowest
   by_survey page zero P none some = none λ q low high. absurd (omega arith)
   by_survey page (suc n) P none some =
@@ -49,20 +51,20 @@ module _ (first d : ℕ) (s : List ℕ) where
       (λ v. rw v (some page (record { low = omega arith; high = omega arith; fails = v; passed = λ q low high. absurd (omega arith) })))
 
   module _ (from to : ℕ) (order : from ≤ to) where
-    pub by_pages : (P : Found → Type 0) → (AllPass valid from to → P None) → ((p : ℕ) → FirstFails valid from to p → P (Page p))
+    pub by_pages : (P : Answer Found → Type 0) → (AllPass valid from to → P (Ok None)) → ((p : ℕ) → FirstFails valid from to p → P (Ok (Page p)))
         → P (lowest (unbacked_in first d s from to))
     unfolding unbacked_in
     by_pages P none some =
         by_survey _ _ P (λ all. none (λ q low high. all q (omega arith) (omega arith)))
         (λ p h. some p (record { low = omega (arith, h.low); high = omega (arith, h.high); fails = h.fails; passed = λ q low high. h.passed q (omega arith) high }))
 
-    pub survey_none : AllPass valid from to → lowest (unbacked_in first d s from to) ≡ None
-    survey_none all = by_pages (λ x. x ≡ None) (λ _. refl) (λ p h. never_both (all p h.low h.high) h.fails)
+    pub survey_none : AllPass valid from to → lowest (unbacked_in first d s from to) ≡ (Ok None)
+    survey_none all = by_pages (λ x. x ≡ (Ok None)) (λ _. refl) (λ p h. never_both (all p h.low h.high) h.fails)
 
-    pub survey_page : (p : ℕ) → FirstFails valid from to p → lowest (unbacked_in first d s from to) ≡ Page p
+    pub survey_page : (p : ℕ) → FirstFails valid from to p → lowest (unbacked_in first d s from to) ≡ Ok (Page p)
     survey_page p h =
-        by_pages (λ x. x ≡ Page p) (λ all. never_both (all p h.low h.high) h.fails)
-        (λ q g. ap Page (true_or_false _ (ltb q p)
+        by_pages (λ x. x ≡ Ok (Page p)) (λ all. never_both (all p h.low h.high) h.fails)
+        (λ q g. ap (λ r. Ok (Page r)) (true_or_false _ (ltb q p)
         (λ e. never_both (h.passed q g.low (ltb-true q p e)) g.fails)
         (λ e. true_or_false _ (ltb p q)
         (λ f. never_both (g.passed p h.low (ltb-true p q f)) h.fails)

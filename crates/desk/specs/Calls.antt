@@ -2,7 +2,6 @@
 -- a call between two runs counts for the second. Two hosts that agree at the start and are given the same calls give the same answers
 -- throughout. The record of a later call may be what an earlier run left: the runs of both hosts leave the same.
 use Rattle.std.specs.Prelude.{ℕ, ◌+◌, ◌*◌, ◌/◌, ◌≤◌, ◌<◌, ◌≡◌, true, List, [], ◌∷◌, length, get_or}
-use Rattle.machine.specs.declared.Answer.{Answer}
 use Rattle.machine.specs.declared.Guest.{Guest}
 use Rattle.machine.specs.declared.Numbers.{Numbers}
 use Rattle.machine.specs.declared.Sought.{Sought}
@@ -19,6 +18,7 @@ use Rattle.desk.specs.declared.Found.{Found}
 use Rattle.desk.specs.Desk.{desk_of, list_of}
 use Rattle.desk.specs.Unbacked.{unbacked_of}
 use Rattle.desk.specs.Theorems.{OfExtent}
+use Rattle.machine.specs.Refusals.{Answer, RunAnswer}
 
 -- a call, with all that is handed in beside the host's storage and keys: a change of a page (record, page, number of valid pages), a
 -- listing (record, workspace), a question for the first unbacked page (record, A and B), a run (numbers, record)
@@ -30,10 +30,10 @@ pub data Call : Type 0 where
 
 -- all that comes back beside them
 pub data Reply : Type 0 where
-  changed : Called → ℕ → Reply
-  listed : Listed → List ℕ → Reply
-  found : Found → Reply
-  ran : Answer → Sought → List ℕ → Reply
+  changed : Answer Called → ℕ → Reply
+  listed : Answer Listed → List ℕ → Reply
+  found : Answer Found → Reply
+  ran : RunAnswer → Sought → List ℕ → Reply
 
 -- the host between two calls
 pub record Store : Type 0 where

@@ -1,13 +1,12 @@
 -- Request 3/12: the page desk. Four operations: add, remove or protect one guest page, each a change of one host page entry; and list
 -- the frames of the guest's pages. Record and keys are only read.
-use Rattle.std.specs.Prelude.{ℕ, ◌+◌, ◌-◌, ◌*◌, ◌%◌, ◌^◌, Bool, cond, not, ◌||◌, List, leb, ltb, length}
+use Rattle.std.specs.Prelude.{ℕ, ◌+◌, ◌-◌, ◌*◌, ◌%◌, ◌^◌, Bool, cond, not, ◌||◌, List, leb, ltb, length, Err, Ok}
 use Rattle.std.proofs.lemmas.List.Edits.{sets}
+use Rattle.machine.specs.declared.Refusal.TheVariants.{WrongLength, WrongVersion, WrongStorage, WrongKeys, ReservedUsed, OutOfReach, AlreadyValid, NotValid, FrameOutside, Entangled, ShortWorkspace}
 use Rattle.machine.specs.declared.Guest.{Guest}
-use Rattle.machine.specs.declared.Verdict.{Verdict}
-use Rattle.machine.specs.declared.Verdict.TheVariants as verdict
 use Rattle.machine.specs.Words.{word_bytes}
 use Rattle.machine.specs.Record.{guest_of}
-use Rattle.machine.specs.Refusals.{frames_of, refuse, wrong_length, wrong_version, wrong_storage, wrong_keys, reserved_used}
+use Rattle.machine.specs.Refusals.{frames_of, refuse, wrong_length, wrong_version, wrong_storage, wrong_keys, reserved_used, Answer, Verdict, no_refusal}
 use Rattle.machine.specs.Entry.{entry_good}
 use Rattle.machine.specs.Walk.{page_invalid, page_protected}
 use Rattle.machine.specs.Frames.{page_place, page_of}
@@ -46,9 +45,9 @@ out_of_reach first pages d s p = leb pages p || not (page_reached d s (first + p
 
 -- 11: page already valid; 12: page not valid; 13: frame outside storage
 unfoldable pub state_verdict : Change → List ℕ → Bool → Verdict → Verdict
-state_verdict (Add frame) s valid later = refuse 11 valid (refuse 13 (leb (frames_of s) frame) later)
-state_verdict Remove s valid later = refuse 12 (not valid) later
-state_verdict Protect s valid later = refuse 12 (not valid) later
+state_verdict (Add frame) s valid later = refuse AlreadyValid valid (refuse FrameOutside (leb (frames_of s) frame) later)
+state_verdict Remove s valid later = refuse NotValid (not valid) later
+state_verdict Protect s valid later = refuse NotValid (not valid) later
 
 -- 14: after the call an entry that describes the extent would lie in a guest frame; or the chosen entry serves a second page of the
 -- extent, or as a segment entry that describes it
@@ -59,32 +58,32 @@ entangled c first pages d s p =
 
 unfoldable pub change_verdict : Change → ℕ → ℕ → ℕ → List ℕ → ℕ → Verdict
 change_verdict c first pages d s p =
-    refuse 10 (out_of_reach first pages d s p)
-    (state_verdict c s (page_valid d s (first + p)) (refuse 14 (entangled c first pages d s p) verdict.Accepted))
+    refuse OutOfReach (out_of_reach first pages d s p)
+    (state_verdict c s (page_valid d s (first + p)) (refuse Entangled (entangled c first pages d s p) no_refusal))
 
 -- 1 to 4, then 7: before an entry failure
 unfoldable pub desk_verdict : List ℕ → List ℕ → List ℕ → Verdict
 desk_verdict r s k =
-    refuse 1 (wrong_length r)
-    (refuse 2 (wrong_version r)
-    (refuse 3 (wrong_storage s) (refuse 4 (wrong_keys s k) (refuse 7 (reserved_used r) verdict.Accepted))))
+    refuse WrongLength (wrong_length r)
+    (refuse WrongVersion (wrong_version r)
+    (refuse WrongStorage (wrong_storage s) (refuse WrongKeys (wrong_keys s k) (refuse ReservedUsed (reserved_used r) no_refusal))))
 
 -- Add, remove and protect
 
 -- what a call answers, and the storage and the number that it leaves
 pub record Result : Type 0 where
-  pub answer : Called
+  pub answer : Answer Called
   pub storage : List ℕ
   pub number : ℕ
 
 -- a refusal and an entry failure change nothing
-abbrev pub unchanged : Called → List ℕ → ℕ → Result
+abbrev pub unchanged : Answer Called → List ℕ → ℕ → Result
 unchanged answer s number = record { answer = answer; storage = s; number = number }
 
 unfoldable pub change_as : Change → ℕ → List ℕ → ℕ → ℕ → Verdict → Result
-change_as c d s page number (verdict.Refused refusal) = unchanged (called.Refused refusal) s number
-change_as c d s page number verdict.Accepted = record {
-  answer = called.Done;
+change_as c d s page number (Err why) = unchanged (Err why) s number
+change_as c d s page number (Ok _) = record {
+  answer = (Ok called.Done);
   storage = storage_after c d s page;
   number = number_after c number;
 }
@@ -94,9 +93,9 @@ unfoldable pub change_of : Change → Guest → ℕ → List ℕ → ℕ → ℕ
 change_of c g d s p number = change_as c d s (first_page g + p) number (change_verdict c (first_page g) (page_count g) d s p)
 
 unfoldable pub desk_as : Change → List ℕ → ℕ → List ℕ → ℕ → ℕ → Verdict → Result
-desk_as c r d s p number (verdict.Refused refusal) = unchanged (called.Refused refusal) s number
-desk_as c r d s p number verdict.Accepted =
-    cond (entry_good (guest_of r)) (change_of c (guest_of r) d s p number) (unchanged called.Validity s number)
+desk_as c r d s p number (Err why) = unchanged (Err why) s number
+desk_as c r d s p number (Ok _) =
+    cond (entry_good (guest_of r)) (change_of c (guest_of r) d s p number) (unchanged (Ok called.Validity) s number)
 
 -- the call on page `p` of the extent
 unfoldable pub desk_of : Change → List ℕ → ℕ → List ℕ → List ℕ → ℕ → ℕ → Result
@@ -105,21 +104,21 @@ desk_of c r d s k p number = desk_as c r d s p number (desk_verdict r s k)
 -- List
 
 pub record Listing : Type 0 where
-  pub answer : Listed
+  pub answer : Answer Listed
   pub words : List ℕ
 
 -- 15: workspace shorter than the extent's pages
 unfoldable pub list_for : Guest → ℕ → List ℕ → List ℕ → Listing
 list_for g d s ws =
-    cond (ltb (length ws) (page_count g)) (record { answer = listed.Refused 15; words = ws })
+    cond (ltb (length ws) (page_count g)) (record { answer = Err ShortWorkspace; words = ws })
     (record {
-      answer = listed.Pages (valid_pages (first_page g) (page_count g) d s);
+      answer = Ok (listed.Pages (valid_pages (first_page g) (page_count g) d s));
       words = listing (first_page g) (page_count g) d s ws;
     })
 
 unfoldable pub list_as : List ℕ → ℕ → List ℕ → List ℕ → Verdict → Listing
-list_as r d s ws (verdict.Refused refusal) = record { answer = listed.Refused refusal; words = ws }
-list_as r d s ws verdict.Accepted = cond (entry_good (guest_of r)) (list_for (guest_of r) d s ws) (record { answer = listed.Validity; words = ws })
+list_as r d s ws (Err why) = record { answer = Err why; words = ws }
+list_as r d s ws (Ok _) = cond (entry_good (guest_of r)) (list_for (guest_of r) d s ws) (record { answer = (Ok listed.Validity); words = ws })
 
 unfoldable pub list_of : List ℕ → ℕ → List ℕ → List ℕ → List ℕ → Listing
 list_of r d s k ws = list_as r d s ws (desk_verdict r s k)

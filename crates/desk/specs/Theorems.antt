@@ -1,5 +1,5 @@
 -- What is proved of the page desk. Each statement is a type here; its proof is in proofs/.
-use Rattle.std.specs.Prelude.{ℕ, ◌+◌, ◌*◌, ◌/◌, ◌≤◌, ◌<◌, ◌≡◌, true, false, List, ◌↔◌, ◌⊎◌, length, get_or}
+use Rattle.std.specs.Prelude.{ℕ, ◌+◌, ◌*◌, ◌/◌, ◌≤◌, ◌<◌, ◌≡◌, true, false, List, ◌↔◌, ◌⊎◌, length, get_or, Ok}
 use Rattle.machine.specs.declared.Guest.{Guest}
 use Rattle.machine.specs.declared.Numbers.{Numbers}
 use Rattle.machine.specs.Words.{byte_at}
@@ -44,7 +44,7 @@ module _ (c : Change) (r : List ℕ) (d : ℕ) (s k : List ℕ) (p number : ℕ)
   pub record ChangesOneEntry : Type 0 where
     pub long : length after ≡ length s
     pub rest : (i : ℕ) → (i < page_place d s (host_of p)) ⊎ (page_place d s (host_of p) + 4 ≤ i) → byte_at after i ≡ byte_at s i
-    pub refused : ((desk_of c r d s k p number).answer ≡ Done → ⊥) → (after ≡ s) × ((desk_of c r d s k p number).number ≡ number)
+    pub refused : ((desk_of c r d s k p number).answer ≡ (Ok Done) → ⊥) → (after ≡ s) × ((desk_of c r d s k p number).number ≡ number)
 
   -- every other page of the extent has the entry that it had, where it had it, or none in reach, as before
   pub record OthersStay : Type 0 where
@@ -59,18 +59,18 @@ CallsChangeOneEntry = (c : Change) (r : List ℕ) (d : ℕ) (s k : List ℕ) (p 
 -- Adding makes exactly that page valid, with that frame, not protected; removing makes exactly that page not valid, and keeps its
 -- frame; protecting changes no validity and no frame.
 pub record CallsDoWhatTheySay : Type 0 where
-  pub others : (c : Change) (r : List ℕ) (d : ℕ) (s k : List ℕ) (p number : ℕ) → (desk_of c r d s k p number).answer ≡ Done → OthersStay c r d s k p number
-  pub inside : (c : Change) (r : List ℕ) (d : ℕ) (s k : List ℕ) (p number : ℕ) → (desk_of c r d s k p number).answer ≡ Done → p < page_count (guest_of r)
-  pub adding : (frame : ℕ) (r : List ℕ) (d : ℕ) (s k : List ℕ) (p number : ℕ) → (desk_of (Add frame) r d s k p number).answer ≡ Done
+  pub others : (c : Change) (r : List ℕ) (d : ℕ) (s k : List ℕ) (p number : ℕ) → (desk_of c r d s k p number).answer ≡ (Ok Done) → OthersStay c r d s k p number
+  pub inside : (c : Change) (r : List ℕ) (d : ℕ) (s k : List ℕ) (p number : ℕ) → (desk_of c r d s k p number).answer ≡ (Ok Done) → p < page_count (guest_of r)
+  pub adding : (frame : ℕ) (r : List ℕ) (d : ℕ) (s k : List ℕ) (p number : ℕ) → (desk_of (Add frame) r d s k p number).answer ≡ (Ok Done)
       → (page_valid d s (first_page (guest_of r) + p) ≡ false)
       × ((page_valid d (desk_of (Add frame) r d s k p number).storage (first_page (guest_of r) + p) ≡ true)
       × ((frame_of (page_of d (desk_of (Add frame) r d s k p number).storage (first_page (guest_of r) + p)) ≡ frame)
       × (page_protected (page_of d (desk_of (Add frame) r d s k p number).storage (first_page (guest_of r) + p)) ≡ false)))
-  pub removing : (r : List ℕ) (d : ℕ) (s k : List ℕ) (p number : ℕ) → (desk_of Remove r d s k p number).answer ≡ Done
+  pub removing : (r : List ℕ) (d : ℕ) (s k : List ℕ) (p number : ℕ) → (desk_of Remove r d s k p number).answer ≡ (Ok Done)
       → (page_valid d s (first_page (guest_of r) + p) ≡ true)
       × ((page_valid d (desk_of Remove r d s k p number).storage (first_page (guest_of r) + p) ≡ false)
       × (frame_of (page_of d (desk_of Remove r d s k p number).storage (first_page (guest_of r) + p)) ≡ frame_of (page_of d s (first_page (guest_of r) + p))))
-  pub protecting : (r : List ℕ) (d : ℕ) (s k : List ℕ) (p number : ℕ) → (desk_of Protect r d s k p number).answer ≡ Done
+  pub protecting : (r : List ℕ) (d : ℕ) (s k : List ℕ) (p number : ℕ) → (desk_of Protect r d s k p number).answer ≡ (Ok Done)
       → (page_valid d s (first_page (guest_of r) + p) ≡ true)
       × ((page_valid d (desk_of Protect r d s k p number).storage (first_page (guest_of r) + p) ≡ true)
       × ((frame_of (page_of d (desk_of Protect r d s k p number).storage (first_page (guest_of r) + p)) ≡ frame_of (page_of d s (first_page (guest_of r) + p)))
@@ -96,7 +96,7 @@ pub record NumberStaysTrue : Type 0 where
 
 -- A call that is done leaves no entry in a guest frame: what demand 3 asks of the next run, and so of every later one.
 abbrev pub CallsLeaveEntriesApart : Type 0
-CallsLeaveEntriesApart = (c : Change) (r : List ℕ) (d : ℕ) (s k : List ℕ) (p number : ℕ) → (desk_of c r d s k p number).answer ≡ Done
+CallsLeaveEntriesApart = (c : Change) (r : List ℕ) (d : ℕ) (s k : List ℕ) (p number : ℕ) → (desk_of c r d s k p number).answer ≡ (Ok Done)
     → (at frame : ℕ) → Describes (guest_of r) d (desk_of c r d s k p number).storage at
     → GuestFrame (guest_of r) d (desk_of c r d s k p number).storage frame → at / frame_bytes ≡ frame → ⊥
 
@@ -124,15 +124,15 @@ module _ (c : Change) (r : List ℕ) (d : ℕ) (s : List ℕ) (p : ℕ) where
 -- Good calls are done: a change that nothing refuses, and a listing with enough words.
 pub record GoodCallsAreDone : Type 0 where
   pub changes : (c : Change) (r : List ℕ) (d : ℕ) (s k : List ℕ) (p number : ℕ) → GoodInput r s k → GoodChange c r d s p
-      → (desk_of c r d s k p number).answer ≡ Done
+      → (desk_of c r d s k p number).answer ≡ (Ok Done)
   pub listings : (r : List ℕ) (d : ℕ) (s k ws : List ℕ) → GoodInput r s k → entry_good (guest_of r) ≡ true → page_count (guest_of r) ≤ length ws
-      → (list_of r d s k ws).answer ≡ Pages (valid_pages (first_page (guest_of r)) (page_count (guest_of r)) d s)
+      → (list_of r d s k ws).answer ≡ Ok (Pages (valid_pages (first_page (guest_of r)) (page_count (guest_of r)) d s))
 
 -- There are such calls: a page is added, then protected, then removed, each on what the call before it left.
 pub record ChangesOnePage (r : List ℕ) (d : ℕ) (s k : List ℕ) (p frame number : ℕ) : Type 0 where
-  pub added : (desk_of (Add frame) r d s k p number).answer ≡ Done
-  pub guarded : (desk_of Protect r d (desk_of (Add frame) r d s k p number).storage k p number).answer ≡ Done
-  pub removed : (desk_of Remove r d (desk_of Protect r d (desk_of (Add frame) r d s k p number).storage k p number).storage k p number).answer ≡ Done
+  pub added : (desk_of (Add frame) r d s k p number).answer ≡ (Ok Done)
+  pub guarded : (desk_of Protect r d (desk_of (Add frame) r d s k p number).storage k p number).answer ≡ (Ok Done)
+  pub removed : (desk_of Remove r d (desk_of Protect r d (desk_of (Add frame) r d s k p number).storage k p number).storage k p number).answer ≡ (Ok Done)
 
 abbrev pub ChangesExist : Type 0
 ChangesExist = (r : List ℕ) × ((d : ℕ) × ((s : List ℕ) × ((k : List ℕ) × ((p : ℕ) × ((frame : ℕ) × ChangesOnePage r d s k p frame 0)))))
@@ -151,5 +151,5 @@ module _ (r : List ℕ) (d : ℕ) (s k ws : List ℕ) where
     pub rest : (i : ℕ) → page_count (guest_of r) ≤ i → get_or (list_of r d s k ws).words i 0 ≡ get_or ws i 0
 
 pub record ListingsShowThePages : Type 0 where
-  pub done : (r : List ℕ) (d : ℕ) (s k ws : List ℕ) (valid : ℕ) → (list_of r d s k ws).answer ≡ Pages valid → ShowsThePages r d s k ws valid
-  pub refused : (r : List ℕ) (d : ℕ) (s k ws : List ℕ) → ((valid : ℕ) → (list_of r d s k ws).answer ≡ Pages valid → ⊥) → (list_of r d s k ws).words ≡ ws
+  pub done : (r : List ℕ) (d : ℕ) (s k ws : List ℕ) (valid : ℕ) → (list_of r d s k ws).answer ≡ Ok (Pages valid) → ShowsThePages r d s k ws valid
+  pub refused : (r : List ℕ) (d : ℕ) (s k ws : List ℕ) → ((valid : ℕ) → (list_of r d s k ws).answer ≡ Ok (Pages valid) → ⊥) → (list_of r d s k ws).words ≡ ws

@@ -1,16 +1,43 @@
--- A class behind the arms of a `match` for others.
+-- A class behind the arms of a `match` for others, and that a class is told by its code.
 -- Assumes nothing.
-use mathlib.Core.Path.{◌≡◌, refl}
+use mathlib.Core.Path.{◌≡◌, refl, ap, sym, ◌∙◌}
 use mathlib.Core.Bool.{false}
-use mathlib.Core.List.{map}
+use mathlib.Core.List.{List, [], ◌∷◌, map}
+use lib.ListN.{get_or}
 use borrow.Author.Rules.{rules}
 use borrow.Author.Tests.{ne_eqb}
 use types.Run.{miss}
 use Rattle.machine.specs.declared.Class.{Class}
 use Rattle.machine.specs.declared.Class.TheVariants.{Lr, Ar, Sr, Bcr, Svc, La, Bc, St, L, Lpsw, Stctl, Lctl, Stck, Spt, Stpt, Mandatory, Unassigned}
 use Rattle.machine.specs.Opcodes.{code_of, same_class}
-use Rattle.decode.proofs.Packing.{same_class_lem}
 use Rattle.dispatch.specs.Testing.{with_operand, WithOperand}
+
+-- the classes in their order
+abbrev classes : List Class
+classes = Lr ∷ Ar ∷ Sr ∷ Bcr ∷ Svc ∷ La ∷ Bc ∷ St ∷ L ∷ Lpsw ∷ Stctl ∷ Lctl ∷ Stck ∷ Spt ∷ Stpt ∷ Mandatory ∷ Unassigned ∷ []
+
+-- a class stands at its code
+placed : (k : Class) → get_or classes (code_of k) Unassigned ≡ k
+placed Lr = refl
+placed Ar = refl
+placed Sr = refl
+placed Bcr = refl
+placed Svc = refl
+placed La = refl
+placed Bc = refl
+placed St = refl
+placed L = refl
+placed Lpsw = refl
+placed Stctl = refl
+placed Lctl = refl
+placed Stck = refl
+placed Spt = refl
+placed Stpt = refl
+placed Mandatory = refl
+placed Unassigned = refl
+
+same_class_lem : (j k : Class) → code_of j ≡ code_of k → j ≡ k
+same_class_lem j k e = sym (placed j) ∙ ap (λ n. get_or classes n Unassigned) e ∙ placed k
 
 -- a class that is not of this kind
 pub other : {class kind : Class} → (class ≡ kind → ⊥) → same_class class kind ≡ false

@@ -12,7 +12,7 @@ ghost use Rattle.machine.specs.Units.{intercepts, decoded};
 ghost use Rattle.execute.specs.Reaching.{Ready, Does};
 ghost use Rattle.dispatch.specs.Testing.{WithOperand, after_tests, exception_code};
 
-use interruptions::{Done, Event, Frames};
+use interruptions::{Done, Event, Frames, OPERATION, PRIVILEGED_OPERATION, SPECIFICATION};
 use machine::{Class, Cpu, Guest, Opcode, Psw, Reason, Registers, Text};
 
 // What the tests before an instruction's operand come to: a program exception, code 4, or the instruction.
@@ -22,12 +22,6 @@ pub enum Tests {
     Intercepted,
     Clear,
 }
-
-const OPERATION: u32 = 1;
-
-const PRIVILEGED_OPERATION: u32 = 2;
-
-const SPECIFICATION: u32 = 6;
 
 // The guest's controls ask for an interception of the instruction.
 fn intercepts(class: Class, guest: Guest, text: Text) -> bool
@@ -51,11 +45,10 @@ pub fn intercept_instruction(cpu: Cpu, text: Text) -> Done
     ensures { (h : Host) (g : Guest) (clock : ℕ) (t : Frames) → Does intercept_instruction h g clock cpu text t result h.storage h.keys }
 {
     let psw = cpu::advanced(cpu.psw, text.ilc as u32);
-    interruptions::ended_with(
-        Event::Intercepted(Reason::Instruction(text)),
-        interruptions::with_psw(cpu, cpu.psw),
-        psw,
-    )
+    Done {
+        event: Event::Intercepted(Reason::Instruction(text)),
+        ..interruptions::with_psw(cpu, psw)
+    }
 }
 
 // No instruction has the opcode.

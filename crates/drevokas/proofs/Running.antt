@@ -1,5 +1,6 @@
 -- The run operation from the run in hand: the record that is left, and the answer.
 -- Assumes nothing.
+use Rattle.std.specs.Prelude.{Err}
 use Prim.Native.Nat.{ℕ, ◌≤◌, ◌<◌}
 use native.Mathlib.Omega.{arith}
 use mathlib.Core.Path.{◌≡◌, refl, ap, sym, subst, ◌∙◌}
@@ -9,23 +10,20 @@ use lib.Dec.{eqb}
 use lib.ListN.{length}
 use lib.Seq.{set-get_or}
 use borrow.Author.Tests.{eq-eqb, eqb-true}
-use Rattle.machine.specs.declared.Answer.TheVariants as answer
-use Rattle.machine.specs.declared.Answer.{Answer}
 use Rattle.machine.specs.declared.Cpu.{Cpu}
 use Rattle.machine.specs.declared.End.{End}
 use Rattle.machine.specs.declared.End.TheVariants.{Intercepted, BudgetUsed}
 use Rattle.machine.specs.declared.Guest.{Guest}
 use Rattle.machine.specs.declared.Numbers.{Numbers}
 use Rattle.machine.specs.declared.Reason.TheVariants.{Validity}
+use Rattle.machine.specs.declared.Refusal.{Refusal}
 use Rattle.machine.specs.declared.Sought.{Sought}
-use Rattle.machine.specs.declared.Verdict.{Verdict}
-use Rattle.machine.specs.declared.Verdict.TheVariants.{Accepted, Refused}
 use Rattle.machine.specs.Words.{bit, byte_at, words_at, words_bytes}
 use Rattle.machine.specs.Record.{record_length, long_length, system370_mode, request_at, residue_at, guest_of, psw_of, cpu_of, with_cpu, with_results, request_of, residue_of, with_request, with_interval}
 use Rattle.machine.specs.Interval.{active, period}
-use Rattle.machine.specs.Refusals.{frames_of, wrong_length, wrong_version, wrong_storage, wrong_keys, run_verdict}
+use Rattle.machine.specs.Refusals.{frames_of, wrong_length, wrong_version, wrong_storage, wrong_keys, run_verdict, RunAnswer, Verdict, no_refusal}
 use Rattle.machine.specs.Entry.{entry_good}
-use Rattle.machine.specs.Answers.{end_results}
+use Rattle.machine.specs.Answers.{end_results, run_answer}
 use Rattle.machine.specs.Run.{run}
 use Rattle.machine.specs.Operations.{result_of, machine_of, run_as, run_of}
 use Rattle.machine.proofs.Laws.{good_length, length-with_results, guest_of-with_results, length-end_results, with_results-with_cpu, with_results-with_results, with_results-with_interval}
@@ -42,7 +40,7 @@ use Rattle.packing.specs.Packing.{packed_answer, place_after_run}
 use Rattle.inspect.specs.Answering.{answer_sought}
 use Rattle.drevokas.specs.Giving.{Starts, Gives, RunGives}
 
-module _ (n : Numbers) (r storage keys : List ℕ) (accepted : run_verdict n r storage keys ≡ Accepted) where
+module _ (n : Numbers) (r storage keys : List ℕ) (accepted : run_verdict n r storage keys ≡ no_refusal) where
   pub run_length : record_length ≤ length r
   run_length = good_length r (accepted-length n r storage keys accepted)
 
@@ -52,10 +50,10 @@ module _ (n : Numbers) (r storage keys : List ℕ) (accepted : run_verdict n r s
   pub run-keys : frames_of storage ≤ length keys
   unfolding run_verdict
   run-keys =
-      let second = (accepted_test 1 (wrong_length r) _ accepted).1 in
-      let third = (accepted_test 2 (wrong_version r) _ second).1 in
-      let fourth = (accepted_test 3 (wrong_storage storage) _ third).1 in
-      omega (arith, keys_of_right storage keys (accepted_test 4 (wrong_keys storage keys) _ fourth).0)
+      let second = (accepted_test _ (wrong_length r) _ accepted).1 in
+      let third = (accepted_test _ (wrong_version r) _ second).1 in
+      let fourth = (accepted_test _ (wrong_storage storage) _ third).1 in
+      omega (arith, keys_of_right storage keys (accepted_test _ (wrong_keys storage keys) _ fourth).0)
 
 -- the PSW of the record has the architecture of its mode
 pub start_architecture : (n : Numbers) (r storage keys : List ℕ) (g : Guest) → Starts n r storage keys g → (c : Cpu) → c ≡ cpu_of r
@@ -112,14 +110,14 @@ module _ (n : Numbers) (r storage keys : List ℕ) where
       → (run n.budget n (machine_of n r storage keys)).end ≡ end → (run n.budget n (machine_of n r storage keys)).units ≡ units
       → final ≡ with_results (end_results end) (run n.budget n (machine_of n r storage keys)).machine.description
       → (run n.budget n (machine_of n r storage keys)).machine.storage ≡ s → (run n.budget n (machine_of n r storage keys)).machine.keys ≡ k
-      → Gives (run_as n r storage keys Accepted) (answer.Ended end units) final s k
+      → Gives (run_as n r storage keys no_refusal) (run_answer end units) final s k
   unfolding run_as result_of
   gives_ended g here good end units {final} {s} {k} same_end same_units left bytes marks =
       subst (λ b. Gives (cond b (result_of n (run n.budget n (machine_of n r storage keys))) (result_of n (record { end = Intercepted Validity; units = 0; machine = machine_of n r storage keys })))
-      (answer.Ended end units) final s k)
+      (run_answer end units) final s k)
       (sym (ap entry_good (sym here) ∙ good))
       (record {
-        answer = λ i. answer.Ended (sym same_end i) (sym same_units i);
+        answer = λ i. run_answer (sym same_end i) (sym same_units i);
         description = left ∙ (λ i. with_results (end_results (sym same_end i)) (run n.budget n (machine_of n r storage keys)).machine.description);
         bytes = sym bytes;
         marks = sym marks;
@@ -160,7 +158,7 @@ module _ (n : Numbers) (r storage keys : List ℕ) where
       → ((i : ℕ) → byte_at r i < 256) → (e : Ended) {final s k : List ℕ}
       → ((d : List ℕ) → OfGuest g d → Ends (run n.budget n (machine_at g d c request residue n.clock storage keys)) g d e s k)
       → final ≡ with_results (end_results e.end) (record_at g r e.cpu e.request e.residue)
-      → Gives (run_as n r storage keys Accepted) (answer.Ended e.end e.units) final s k
+      → Gives (run_as n r storage keys no_refusal) (run_answer e.end e.units) final s k
   gives_run g starts c request residue same asked rest small e {final} {s} {k} ends left =
       gives_ended g starts.here starts.good e.end e.units there.end there.units
       (left ∙ results_once e.end (record_at g r e.cpu e.request e.residue)
@@ -182,11 +180,11 @@ module _ (n : Numbers) (r storage keys : List ℕ) where
 
   -- entry fails
   pub gives_validity : (g : Guest) → g ≡ guest_of r → entry_good g ≡ false → {final : List ℕ} → final ≡ with_results (end_results (Intercepted Validity)) r
-      → Gives (run_as n r storage keys Accepted) (answer.Ended (Intercepted Validity) 0) final storage keys
+      → Gives (run_as n r storage keys no_refusal) (run_answer (Intercepted Validity) 0) final storage keys
   unfolding run_as result_of machine_of
   gives_validity g here bad {final} left =
       subst (λ b. Gives (cond b (result_of n (run n.budget n (machine_of n r storage keys))) (result_of n (record { end = Intercepted Validity; units = 0; machine = machine_of n r storage keys })))
-      (answer.Ended (Intercepted Validity) 0) final storage keys)
+      (run_answer (Intercepted Validity) 0) final storage keys)
       (sym (ap entry_good (sym here) ∙ bad))
       (record {
         answer = refl;
@@ -197,10 +195,10 @@ module _ (n : Numbers) (r storage keys : List ℕ) where
       })
 
   -- by the verdict
-  pub gives_as : (v w : Verdict) → v ≡ w → (x : Answer) {final s k : List ℕ} → Gives (run_as n r storage keys w) x final s k → Gives (run_as n r storage keys v) x final s k
+  pub gives_as : (v w : Verdict) → v ≡ w → (x : RunAnswer) {final s k : List ℕ} → Gives (run_as n r storage keys w) x final s k → Gives (run_as n r storage keys v) x final s k
   gives_as v w same x {final} {s} {k} gives = subst (λ v. Gives (run_as n r storage keys v) x final s k) (sym same) gives
 
-  pub gives_refused : (number : ℕ) → Gives (run_as n r storage keys (Refused number)) (answer.Refused number) r storage keys
+  pub gives_refused : (number : Refusal) → Gives (run_as n r storage keys (Err number)) (Err number) r storage keys
   unfolding run_as
   gives_refused number = record { answer = refl; description = refl; bytes = refl; marks = refl }
 
@@ -212,7 +210,7 @@ module _ (n : Numbers) (r storage keys : List ℕ) where
       (λ accepted good. refl)
 
   -- packed
-  pub run-packed : (v : Verdict) → v ≡ run_verdict n r storage keys → (x : Answer) {final s k : List ℕ} → Gives (run_as n r storage keys v) x final s k
+  pub run-packed : (v : Verdict) → v ≡ run_verdict n r storage keys → (x : RunAnswer) {final s k : List ℕ} → Gives (run_as n r storage keys v) x final s k
       → (table : Sought) → table ≡ answer_sought n.designation s x → (before : ℕ) {word after : ℕ} → word ≡ packed_answer x table
       → after ≡ place_after_run x table before → RunGives n r storage keys before word final s k after
   unfolding run_of

@@ -1,11 +1,9 @@
 -- What the run operation answers and leaves behind.
 use Rattle.std.specs.Prelude.{ℕ, ◌≡◌, true, List}
-use Rattle.machine.specs.declared.Answer.{Answer}
 use Rattle.machine.specs.declared.Guest.{Guest}
 use Rattle.machine.specs.declared.Numbers.{Numbers}
-use Rattle.machine.specs.declared.Verdict.TheVariants.{Accepted}
 use Rattle.machine.specs.Record.{guest_of}
-use Rattle.machine.specs.Refusals.{run_verdict}
+use Rattle.machine.specs.Refusals.{run_verdict, RunAnswer, no_refusal}
 use Rattle.machine.specs.Entry.{entry_good}
 use Rattle.machine.specs.Operations.{Result, run_of}
 use Rattle.desk.specs.Desk as desk
@@ -14,12 +12,12 @@ use Rattle.replies.specs.Replying.{packed_call, packed_listing}
 
 -- the input of a run is accepted, and entry lets the guest through
 pub record Starts (n : Numbers) (r storage keys : List ℕ) (g : Guest) : Type 0 where
-  pub accepted : run_verdict n r storage keys ≡ Accepted
+  pub accepted : run_verdict n r storage keys ≡ no_refusal
   pub here : g ≡ guest_of r
   pub good : entry_good g ≡ true
 
 -- a run answered, and left record, storage and keys, as a result says
-pub record Gives (result : Result) (a : Answer) (r storage keys : List ℕ) : Type 0 where
+pub record Gives (result : Result) (a : RunAnswer) (r storage keys : List ℕ) : Type 0 where
   pub answer : a ≡ result.answer
   pub description : r ≡ result.description
   pub bytes : storage ≡ result.storage

@@ -15,14 +15,13 @@ ghost use Rattle.desk.specs.Desk.{desk_of, list_of};
 ghost use Rattle.desk.specs.Unbacked.{unbacked_of};
 
 use desk::Change;
-use machine::{Answer, End, Numbers, Reason, Translated, Verdict};
+use machine::{Answer, End, Numbers, Reason, Refusal, Stopped, Verdict};
+use records::Ticks;
 
-// The lengths of the two records, and the refusal of another length.
+// The lengths of the two records.
 const RECORD: usize = 200;
 
 const LONG_RECORD: usize = 208;
-
-const WRONG_LENGTH: u32 = 1;
 
 // Checks a record: good, code 32 or refused.
 pub fn drevokas_check(r: &[u8]) -> u64
@@ -45,47 +44,41 @@ pub fn drevokas_translate(
         × (place.new ≡ place_after (translate r.now (host designation storage.now keys.now) a kind) place.old) }
 {
     if r.len() < RECORD {
-        return inspections::pack_translation(Translated::Refused(WRONG_LENGTH));
+        return inspections::pack_translation(Err(Refusal::WrongLength));
     }
     if r.len() == RECORD {
-        match refusals::short_translate_verdict(r, storage, keys, kind) {
-            Verdict::Refused(number) => {
-                return inspections::pack_translation(Translated::Refused(number));
-            }
-            Verdict::Accepted => {}
+        if let Err(refusal) = refusals::short_translate_verdict(r, storage, keys, kind) {
+            return inspections::pack_translation(Err(refusal));
         }
     } else {
-        match refusals::translate_verdict(r, storage, keys, kind) {
-            Verdict::Refused(number) => {
-                return inspections::pack_translation(Translated::Refused(number));
-            }
-            Verdict::Accepted => {}
+        if let Err(refusal) = refusals::translate_verdict(r, storage, keys, kind) {
+            return inspections::pack_translation(Err(refusal));
         }
     }
     inspect::translate_accepted(r, storage, keys, designation, a, kind, place)
 }
 
 // run, once the verdict is known: refused; entry fails; or the guest runs, and the record gets its state, its timer and the results.
-fn run_as(r: &mut [u8], storage: &mut [u8], keys: &mut [u8], n: Numbers, v: Verdict) -> Answer
+fn run_as(
+    r: &mut [u8],
+    storage: &mut [u8],
+    keys: &mut [u8],
+    n: Numbers,
+    v: Verdict,
+) -> Answer<Stopped>
     requires { v ≡ run_verdict n r.old storage.old keys.old }
     ensures { Gives (run_as n r.old storage.old keys.old v) result r.new storage.new keys.new }
 {
-    match v {
-        Verdict::Refused(number) => {
-            return Answer::Refused(number);
-        }
-        Verdict::Accepted => {}
-    }
+    v?;
     let guest = records::guest_of(r);
     if !entry::entry_good(guest, r.len() == LONG_RECORD) {
         let end = End::Intercepted(Reason::Validity);
         records::put_results(r, end);
-        return Answer::Ended { end, units: 0 };
+        return Ok(Stopped { end, units: 0 });
     }
     let timed = interval::active(guest);
     let start = records::cpu_of(r);
-    let request = records::request_in(r, timed);
-    let residue = records::residue_in(r, timed);
+    let ticks = records::ticks_in(r, timed).unwrap_or_default();
     let ended = run::run(
         storage,
         keys,
@@ -95,18 +88,22 @@ fn run_as(r: &mut [u8], storage: &mut [u8], keys: &mut [u8], n: Numbers, v: Verd
         n.time,
         n.budget,
         start,
-        request,
-        residue,
+        ticks.request,
+        ticks.residue,
     );
     let cpu = ended.cpu;
     let end = ended.end;
     records::put_cpu(r, cpu);
-    records::put_timer(r, timed, ended.request, ended.residue);
+    let after = Ticks {
+        request: ended.request,
+        residue: ended.residue,
+    };
+    records::put_ticks(r, timed.then_some(after));
     records::put_results(r, end);
-    Answer::Ended {
+    Ok(Stopped {
         end,
         units: ended.units,
-    }
+    })
 }
 
 // Runs a guest for at most budget units: intercepted, a host fault, budget used, or refused.

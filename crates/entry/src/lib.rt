@@ -29,41 +29,28 @@ pub fn xa_mode(mode: u8) -> bool
 }
 
 // Whether the mode is installed: 370-XA's, or System/370's with a record and a prefix that can have it.
+#[tactic(auto, unfolding(crate::specs::Modes::mode_good))]
 fn mode_good(mode: u8, long: bool, prefix: u32) -> bool
     ensures { result ≡ mode_good mode long prefix }
 {
-    if xa_mode(mode) {
-        return true;
-    }
-    if mode / 4 % 4 != SYSTEM_370 {
-        return false;
-    }
-    if mode / 2 % 2 == 1 {
-        return false;
-    }
-    if !long {
-        return false;
-    }
-    prefix < SHORT_PREFIX
+    xa_mode(mode)
+        || (mode / 4 % 4 == SYSTEM_370 && mode / 2 % 2 == 0 && long && prefix < SHORT_PREFIX)
 }
 
 // Whether the guest lies in the host's 2 GiB and its prefix in the guest; then its extent is not 0, and its origin at most 32,767.
+#[tactic(auto, unfolding(machine::specs::Entry::extent_fits, machine::specs::Entry::prefix_fits))]
 pub fn place_good(guest: Guest) -> bool
     ensures { result ≡ (extent_fits guest && prefix_fits guest) }
 {
-    if guest.origin as u32 + guest.extent as u32 > BLOCKS {
-        return false;
-    }
-    guest.prefix as u64 * PAGE + PAGE <= guest.extent as u64 * BLOCK
+    guest.origin as u32 + guest.extent as u32 <= BLOCKS
+        && guest.prefix as u64 * PAGE + PAGE <= guest.extent as u64 * BLOCK
 }
 
 // Whether entry lets a guest through, whose record is the longer one, of version 2, or not.
+#[tactic(auto, using(crate::proofs::Parts::entry_parts))]
 pub fn entry_good(guest: Guest, long: bool) -> bool
     requires { long ≡ eqb guest.version 2 }
     ensures { result ≡ entry_good guest }
 {
-    if !mode_good(guest.mode, long, guest.prefix) {
-        return false;
-    }
-    place_good(guest)
+    mode_good(guest.mode, long, guest.prefix) && place_good(guest)
 }

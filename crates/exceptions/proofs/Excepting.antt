@@ -21,7 +21,7 @@ use Rattle.machine.specs.Interruptions.{exception}
 use Rattle.machine.specs.Units.{decoded, started, instruction}
 use Rattle.machine.proofs.Tests.{on_either_arm}
 use Rattle.address.specs.Touching.{seen}
-use Rattle.interruptions.specs.declared.Done.{Done}
+use Rattle.interruptions.specs.declared.Done.{Done as Leaves}
 use Rattle.interruptions.specs.declared.Frames.{Frames}
 use Rattle.interruptions.specs.After.{mark_text, Standing, Left}
 use Rattle.guard.specs.Guarding.{Alike}
@@ -36,7 +36,7 @@ use Rattle.lap.specs.declared.Landing.{Landing}
 use Rattle.lap.specs.Stepping.{Lands}
 use Rattle.area.specs.Keeping.{Placed, Area}
 use Rattle.calls.specs.Calling.{Interrupts}
-use Rattle.special.specs.declared.Single.{Single}
+use Rattle.special.specs.declared.Done.{Done}
 use Rattle.special.specs.Performing.{psw_in}
 use Rattle.special.specs.Singling.{start, SinglesIn}
 use Rattle.exceptions.specs.Excepting.{text_in, Having}
@@ -47,13 +47,13 @@ pub address_small : (c : Cpu) → instruction_address c < 2147483648
 address_small c = on_either_arm (λ a. a < 2147483648) c.psw.system370 (omega arith) (omega arith)
 
 -- an exception of a unit in progress, whose text has its marks
-pub leaves_so : (psw : Psw) (guest : Guest) (timer : ℕ) (words : List ℕ) (area : ℕ) (sixteen : Sixteen words) (ilc : ℕ) (f : Failure) (r : Single) (storage storage' : List ℕ)
-    → r.timer ≡ timer → Placed area → Interrupts area psw (Having guest ilc) (λ x. exception x x.cpu f) storage (psw_in r psw) storage'
+pub leaves_so : (psw : Psw) (guest : Guest) (timer : ℕ) (words : List ℕ) (area : ℕ) (sixteen : Sixteen words) (ilc : ℕ) (f : Failure) (d : Done) (storage storage' : List ℕ)
+    → d.timer ≡ timer → Placed area → Interrupts area psw (Having guest ilc) (λ x. exception x x.cpu f) storage (psw_in d psw) storage'
     → (designation : ℕ) (keys guard : List ℕ) → Area guard guest (host designation storage keys) area
     → (c : Cpu) → c.psw ≡ psw → c.timer ≡ timer → (control : List ℕ) → c.control.words ≡ control → c.general.words ≡ words
     → (x : Progress) (clock : ℕ) (text : Text) (t : Frames) → text.ilc ≡ ilc → keys ≡ mark_text t keys → Standing (host designation storage keys) x guest clock c text t
-    → Left (host designation storage keys) guest c (exception x x.cpu f) (done_as (psw_in r psw) r.timer (record { words = control })) storage' keys × Alike guard storage storage'
-leaves_so psw guest timer words area sixteen ilc f r storage storage' same placed interrupts designation keys guard areaKept c of_psw of_timer control of_control ofWords x clock text t long marked standing =
+    → Left (host designation storage keys) guest c (exception x x.cpu f) (done_as (psw_in d psw) d.timer (record { words = control })) storage' keys × Alike guard storage storage'
+leaves_so psw guest timer words area sixteen ilc f d storage storage' same placed interrupts designation keys guard areaKept c of_psw of_timer control of_control ofWords x clock text t long marked standing =
     let h = host designation storage keys in
     let (leaves, alike) =
     interrupts guard h guest x clock c text t (record {
@@ -65,7 +65,7 @@ leaves_so psw guest timer words area sixteen ilc f r storage storage' same place
       kept = areaKept;
       placed = placed;
     }) (refl, long) in
-    (subst (λ d. Left h guest c (exception x x.cpu f) d storage' keys) (λ i. done_as (psw_in r psw) ((of_timer ∙ sym same) i) (record { words = of_control i })) leaves, alike)
+    (subst (λ d. Left h guest c (exception x x.cpu f) d storage' keys) (λ i. done_as (psw_in d psw) ((of_timer ∙ sym same) i) (record { words = of_control i })) leaves, alike)
 
 module _ (psw : Psw) (kept storage : List ℕ) (inside : Inside storage kept) (l : Landing) (lands : Lands kept (instruction_address (state psw)) l) where
   -- the block of the text
@@ -87,8 +87,8 @@ module _ (psw : Psw) (kept storage : List ℕ) (inside : Inside storage kept) (l
 
   -- a unit whose text stands there and comes to an exception in this host
   module _ (room : l.at ≤ l.base + 2042) (guest : Guest) (timer : ℕ) (words : List ℕ) (area : ℕ) (sixteen : Sixteen words) (first : ℕ) (f : Failure) (read : first ≡ half_at storage l.at)
-      (r : Single) (storage' : List ℕ) (same : r.timer ≡ timer) (placed : Placed area)
-      (interrupts : Interrupts area psw (Having guest (length_of first)) (λ x. exception x x.cpu f) storage (psw_in r psw) storage')
+      (d : Done) (storage' : List ℕ) (same : d.timer ≡ timer) (placed : Placed area)
+      (interrupts : Interrupts area psw (Having guest (length_of first)) (λ x. exception x x.cpu f) storage (psw_in d psw) storage')
       (clock : ℕ) (control : List ℕ) (designation : ℕ) (keys : List ℕ)
       (tests : (x : Progress) → x.guest ≡ guest → x.view ≡ view guest (host designation storage keys) → x.cpu.psw ≡ psw → x.cpu.control.words ≡ control
       → x.cpu.general ≡ record { words = words } → x.text ≡ text_in storage l.at first → decoded x (opcode_of psw.system370 first) ≡ exception x x.cpu f) where
@@ -120,13 +120,13 @@ module _ (psw : Psw) (kept storage : List ℕ) (inside : Inside storage kept) (l
           (omega (arith, lands.base, lands.at, lands.even)) at_address uncut first read
 
       -- what the unit in progress leaves
-      abbrev after : Done
-      after = done_as (psw_in r psw) r.timer (record { words = control })
+      abbrev after : Leaves
+      after = done_as (psw_in d psw) d.timer (record { words = control })
 
       excepts : (x : Progress) → Standing h x guest clock c (text_in storage l.at first) (text_frame b)
           → Left h guest c (exception x x.cpu f) after storage' keys × Alike guard storage storage'
       excepts x standing =
-          leaves_so psw guest timer words area sixteen (length_of first) f r storage storage' same placed interrupts designation keys guard areaKept c of_psw of_timer control of_control ofWords
+          leaves_so psw guest timer words area sixteen (length_of first) f d storage storage' same placed interrupts designation keys guard areaKept c of_psw of_timer control of_control ofWords
           x clock (text_in storage l.at first) (text_frame b) refl (marked_text keys b (marks.fetch lands.entry lands.few holding)) standing
 
       comes : (x : Progress) → Standing h x guest clock c (text_in storage l.at first) (text_frame b)
@@ -143,7 +143,7 @@ module _ (psw : Psw) (kept storage : List ℕ) (inside : Inside storage kept) (l
         (excepts fetched.0 fetched.1).1,
       )
 
-    pub singles_so : SinglesIn designation keys guest clock (start psw timer words control) kept area storage r control storage'
+    pub singles_so : SinglesIn designation keys guest clock (start psw timer words control) kept area storage d control storage'
     singles_so guard wrapped marks free holds areaKept = (
       λ c of_psw of_timer of_control ofWords. (leaves guard wrapped marks holds areaKept c of_psw of_timer of_control ofWords).0,
       (leaves guard wrapped marks holds areaKept (record { psw = psw; timer = timer; control = record { words = control }; general = record { words = words } }) refl refl refl refl).1,

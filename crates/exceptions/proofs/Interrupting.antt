@@ -21,7 +21,7 @@ use Rattle.machine.proofs.Tests.{on_either_arm}
 use Rattle.interruptions.specs.After.{left_by, cpu_after, Left}
 use Rattle.steps.specs.Texting.{done_as}
 use Rattle.calls.specs.Calling.{Interrupts, Excepting}
-use Rattle.special.specs.declared.Single.{Single}
+use Rattle.special.specs.declared.Done.{Done}
 use Rattle.special.specs.Performing.{psw_in}
 use Rattle.exceptions.specs.Excepting.{Having}
 
@@ -53,21 +53,21 @@ module _ (x : Progress) (c : Cpu) where
       (on_either_arm Same (bit 8 1 x.guest.interceptions) (past_same f) (interrupt_same (after_exception x c f) (past_same f) _ _ _)))
 
 -- so the PSW that comes back has its words and the architecture of the one before
-own_psw : (r : Single) (psw later : Psw) → r.left ≡ later.left → r.right ≡ later.right → later.system370 ≡ psw.system370 → later ≡ psw_in r psw
-own_psw r psw later left right same = λ i. record { left = sym left i; right = sym right i; system370 = same i }
+own_psw : (d : Done) (psw later : Psw) → d.left ≡ later.left → d.right ≡ later.right → later.system370 ≡ psw.system370 → later ≡ psw_in d psw
+own_psw d psw later left right same = λ i. record { left = sym left i; right = sym right i; system370 = same i }
 
 -- an exception that interrupts, by the words of the PSW that it leaves
-pub interrupts_so : (area : ℕ) (psw : Psw) (guest : Guest) (ilc : ℕ) (f : Failure) (storage : List ℕ) (later : Psw) (storage' : List ℕ) (r : Single)
-    → r.left ≡ later.left → r.right ≡ later.right
+pub interrupts_so : (area : ℕ) (psw : Psw) (guest : Guest) (ilc : ℕ) (f : Failure) (storage : List ℕ) (later : Psw) (storage' : List ℕ) (d : Done)
+    → d.left ≡ later.left → d.right ≡ later.right
     → (eqb f.code operation && bit 8 0 guest.interceptions) ≡ false → bit 8 1 guest.interceptions ≡ false
     → Interrupts area psw (Excepting ilc f.code) (λ x. exception x x.cpu f) storage later storage'
-    → Interrupts area psw (Having guest ilc) (λ x. exception x x.cpu f) storage (psw_in r psw) storage'
+    → Interrupts area psw (Having guest ilc) (λ x. exception x x.cpu f) storage (psw_in d psw) storage'
 unfolding left_by
-interrupts_so area psw guest ilc f storage later storage' r left right first second interrupts guard h g x clock c text t stands having =
+interrupts_so area psw guest ilc f storage later storage' d left right first second interrupts guard h g x clock c text t stands having =
     let quiet : (eqb f.code operation && bit 8 0 g.interceptions) ≡ false = ap (λ k. eqb f.code operation && bit 8 0 k.interceptions) having.0 ∙ first in
     let calm : bit 8 1 g.interceptions ≡ false = ap (λ k. bit 8 1 k.interceptions) having.0 ∙ second in
     let (leaves, alike) = interrupts guard h g x clock c text t stands (having.1, quiet, calm) in
     let kept : later.system370 ≡ psw.system370 =
     ap (λ k. k.psw.system370) leaves.cpu ∙ ap (λ k. (cpu_after c (exception x k f)).psw.system370) stands.standing.of_cpu
     ∙ exception_same x c f ∙ ap (λ p. p.system370) stands.of_psw in
-    (subst (λ p. Left h g c (exception x x.cpu f) (done_as p c.timer c.control) storage' h.keys) (own_psw r psw later left right kept) leaves, alike)
+    (subst (λ p. Left h g c (exception x x.cpu f) (done_as p c.timer c.control) storage' h.keys) (own_psw d psw later left right kept) leaves, alike)

@@ -1,5 +1,6 @@
 -- The fetch of a text of any length that stands on a kept block.
 -- Assumes nothing.
+use Rattle.std.specs.Prelude.{Ok}
 use Prim.Native.Nat.{ℕ, ◌+◌, ◌-◌, ◌/◌, ◌%◌, ◌≤◌, ◌<◌}
 use native.Mathlib.Omega.{arith}
 use mathlib.Core.Path.{◌≡◌, refl, ap, sym, subst, ◌∙◌}
@@ -15,16 +16,15 @@ use Rattle.machine.specs.Psw.{wrap, instruction_address}
 use Rattle.machine.specs.Host.{Host, view}
 use Rattle.machine.specs.Opcodes.{length_of, opcode_of}
 use Rattle.machine.specs.Units.{first_text, second_text, third_text, fetch_third, started, instruction}
-use Rattle.address.specs.declared.Place.TheVariants.{At}
 use Rattle.address.specs.Touching.{seen, touch_of}
-use Rattle.operands.specs.declared.Operand.TheVariants.{Open}
-use Rattle.operands.specs.Operands.{operand_of, in_one_page, to_page_end}
+use Rattle.operands.specs.Operands.{operand_of, in_one_page, to_page_end, in_pieces}
 use Rattle.operands.proofs.Seen.{operand_seen}
 use Rattle.execute.proofs.Reaching.{not_both}
 use Rattle.text.specs.Fetching.{FetchedAs, Fetches, Halfword, no_text, no_frames, one_frame, whole}
-use Rattle.text.proofs.Halfwords.{initial, further, marked_first, marked_once, ends_in_first}
+use Rattle.text.proofs.Halfwords.{initial, further, marked_first, marked_once}
 use Rattle.text.proofs.Texts.{standing_started, first_open, second_open, third_open}
 use Rattle.blocks.specs.Keeping.{Block, Leads, Stands}
+use Rattle.interruptions.specs.declared.Frames.TheVariants as frames
 use Rattle.steps.specs.Texting.{short_text, text_frame}
 use Rattle.steps.proofs.Reading.{reads_one, reads_two}
 use Rattle.exceptions.specs.Excepting.{text_in}
@@ -49,23 +49,23 @@ module _ (h : Host) (g : Guest) (clock : ℕ) (c : Cpu) (b : Block) (at : ℕ) (
   abbrev a : ℕ
   a = b.first + (at - b.place)
 
-  touched : touch_of g h c false a ≡ At at
+  touched : touch_of g h c false a ≡ Ok at
   touched =
       let place : b.place + (at - b.place) ≡ at = omega arith in
-      leads (at - b.place) (omega (arith, inside, from)) (omega (arith, stands.aligned, small, inside, from)) (λ store. not_both store refl) ∙ ap At place
+      leads (at - b.place) (omega (arith, inside, from)) (omega (arith, stands.aligned, small, inside, from)) (λ store. not_both store refl) ∙ ap Ok place
 
-  sought : operand_of g h c false a 2 ≡ Open at 2 0
+  sought : operand_of g h c false a 2 ≡ in_pieces at 2 0
   unfolding operand_of in_one_page
   sought = rw (le-leb 2 (to_page_end a) (omega (arith, stands.aligned, inside, from, even)), touched)
 
-  found : Halfword h g (seen c.psw c.control) 0 a (Open at 2 0)
+  found : Halfword h g (seen c.psw c.control) 0 a (in_pieces at 2 0)
   unfolding wrap
   found =
       initial {c = seen c.psw c.control} (sym (ap (wrap c) address ∙ wrapped)) (omega (arith, address, even, stands.aligned))
       (sym sought ∙ operand_seen g h c false a 2)
 
   in_frame_lem : one_frame at ≡ text_frame b
-  in_frame_lem = ap (λ f. record { count = 1; first = f; second = 0 }) (omega (arith, stands.placed, inside, from))
+  in_frame_lem = ap frames.One (omega (arith, stands.placed, inside, from))
 
   abbrev FetchedHere : ℕ → Text → Type 0
   FetchedHere first text = FetchedAs h g clock c (instruction (started g clock (view g h) c 1)) (opcode_of c.psw.system370 first) (whole text (text_frame b))
@@ -81,7 +81,7 @@ module _ (h : Host) (g : Guest) (clock : ℕ) (c : Cpu) (b : Block) (at : ℕ) (
   reads_last : (first second : ℕ) → length_of first ≡ 3
       → Fetches h g c.psw c.control (short_text first second) (one_frame at) fetch_third (opcode_of c.psw.system370 first) (whole (long_text first second (half_at h.storage (at + 2 + 2))) (one_frame at))
   reads_last first second long =
-      third_open (short_text first second) (one_frame at) (at + 2 + 2) (one_frame at) (marked_once (ends_in_first at at a refl) (at + 2 + 2) (marked_further (at + 2 + 2) (omega arith) (omega arith)))
+      third_open (short_text first second) (one_frame at) (at + 2 + 2) (one_frame at) (marked_once (one_frame at) a at refl (at + 2 + 2) (marked_further (at + 2 + 2) (omega arith) (omega arith)))
       (omega (arith, long)) (further (further found (omega (arith, stands.aligned, inside, from))) (omega (arith, stands.aligned, inside, from)))
 
   -- of three halfwords
@@ -92,7 +92,7 @@ module _ (h : Host) (g : Guest) (clock : ℕ) (c : Cpu) (b : Block) (at : ℕ) (
       subst (λ t. FetchedAs h g clock c (instruction (started g clock (view g h) c 1)) (opcode_of c.psw.system370 first) (whole (long_text first second third) t)) in_frame_lem
       (first_open no_text no_frames at (one_frame at) (marked_first at) (short_text first 0) (opcode_of c.psw.system370 first) (whole (long_text first second third) (one_frame at)) found
       (ap (first_text c.psw.system370) read) refl
-      (second_open (short_text first 0) (one_frame at) (at + 2) (one_frame at) (marked_once (ends_in_first at at a refl) (at + 2) (marked_further (at + 2) (omega arith) (omega arith)))
+      (second_open (short_text first 0) (one_frame at) (at + 2) (one_frame at) (marked_once (one_frame at) a at refl (at + 2) (marked_further (at + 2) (omega arith) (omega arith)))
       (short_text first second) (whole (long_text first second third) (one_frame at)) (omega (arith, long)) (further found (omega (arith, stands.aligned, inside, from)))
       (ap (λ half. second_text (short_text first 0) half) next)
       (subst (λ half. Fetches h g c.psw c.control (short_text first second) (one_frame at) fetch_third (opcode_of c.psw.system370 first) (whole (long_text first second half) (one_frame at))) last (reads_last first second long)))

@@ -1,7 +1,7 @@
 // One unit on kept blocks whose tests come to an exception that interrupts: operation, privileged operation, specification.
 #![tactic(auto)]
 
-ghost use Rattle.std.specs.Prelude.{◌≡◌, false, ◌&&◌, List, ℕ, ◌+◌, ◌≤◌, ◌<◌, eqb, length};
+ghost use Rattle.std.specs.Prelude.{◌≡◌, false, ◌&&◌, List, ℕ, ◌+◌, ◌≤◌, ◌<◌, eqb, length, IfOk, IfErr};
 ghost use Rattle.machine.specs.Words.{bit};
 ghost use Rattle.machine.specs.Opcodes.{length_of};
 ghost use Rattle.machine.specs.Failures.{operation};
@@ -10,13 +10,13 @@ ghost use Rattle.machine.specs.Record.{Sixteen};
 ghost use Rattle.blocks.specs.Keeping.{Inside};
 ghost use Rattle.area.specs.Keeping.{Placed, InStorage};
 ghost use Rattle.calls.specs.Calling.{Interrupts};
-ghost use Rattle.special.specs.Performing.{calm, IsDone, psw_in, Near};
+ghost use Rattle.special.specs.Performing.{Below, IfCalm, psw_in, Near};
 ghost use Rattle.special.specs.Singling.{start, Singles};
 ghost use Rattle.exceptions.specs.Excepting.{text_in, Having};
 
 use dispatch::Tests;
 use machine::{Failure, Guest, Psw, Registers, Text};
-use special::Single;
+use special::{Change, Done, Single, Want};
 
 const OPERATION: u32 = 1;
 
@@ -28,28 +28,19 @@ pub fn text_at(storage: &[u8], at: usize, ilc: u8, first: u32) -> Text
     requires { (at + 6 ≤ length storage.now) × (ilc ≡ length_of first) × (first < 65536) }
     ensures { result ≡ text_in storage.now at first }
 {
-    let head = first as u16;
-    if ilc < 2 {
-        return Text {
-            ilc,
-            first: head,
-            second: 0,
-            third: 0,
-        };
-    }
-    let second = words::half_at(storage, at + 2) as u16;
-    if ilc < 3 {
-        return Text {
-            ilc,
-            first: head,
-            second,
-            third: 0,
-        };
-    }
-    let third = words::half_at(storage, at + 4) as u16;
+    let second = if ilc < 2 {
+        0
+    } else {
+        words::half_at(storage, at + 2)
+    };
+    let third = if ilc < 3 {
+        0
+    } else {
+        words::half_at(storage, at + 4)
+    };
     Text {
         ilc,
-        first: head,
+        first: first as u16,
         second,
         third,
     }
@@ -59,13 +50,7 @@ pub fn text_at(storage: &[u8], at: usize, ilc: u8, first: u32) -> Text
 fn intercepted(guest: Guest, code: u32) -> bool
     ensures { result ≡ false → (((eqb code operation && bit 8 0 guest.interceptions) ≡ false) × (bit 8 1 guest.interceptions ≡ false)) }
 {
-    if guest.interceptions / 64 % 2 == 1 {
-        return true;
-    }
-    if code == OPERATION {
-        return guest.interceptions / 128 % 2 == 1;
-    }
-    false
+    guest.interceptions / 64 % 2 == 1 || code == OPERATION && guest.interceptions / 128 % 2 == 1
 }
 
 // An exception that is none of the host, of a text with this ILC.
@@ -79,21 +64,19 @@ pub fn excepted(
     f: Failure,
 ) -> Single
     requires { InStorage storage.old area × (ilc ≤ 3) × (f.code < 65536) × (f.host ≡ false) }
-    ensures timer_value { IsDone result → (result.timer ≡ timer) × Placed area × Interrupts area psw (Having guest ilc) (λ x. exception x x.cpu f) storage.old (psw_in result psw) storage.new }
-    ensures storage_unchanged { result.want < calm → storage.new ≡ storage.old }
-    ensures near { (result.want ≡ calm → Near psw (psw_in result psw) × (result.timer ≡ timer)) × (result.a < 2147483648) }
+    ensures interrupts { IfOk result (λ d. (d.timer ≡ timer) × Placed area
+        × Interrupts area psw (Having guest ilc) (λ x. exception x x.cpu f) storage.old (psw_in d psw) storage.new
+        × IfCalm d.change (Near psw (psw_in d psw) × (d.timer ≡ timer))) }
+    ensures wants { IfErr result (λ w. (storage.new ≡ storage.old) × Below w) }
 {
     if intercepted(guest, f.code) {
-        return special::wanting(special::OTHER, 0, timer);
+        return Err(Want::Other);
     }
     if area >= 2147483648 {
-        return special::wanting(special::AREA, 0, timer);
+        return Err(Want::Area);
     }
-    special::done(
-        special::CALLED,
-        calls::exception(storage, area, psw, ilc, f),
-        timer,
-    )
+    let new = calls::exception(storage, area, psw, ilc, f);
+    Ok(Done::leaving(Change::Called, new, timer))
 }
 
 // The instruction at the PSW, if its tests come to an exception that interrupts and what it needs is kept.
@@ -107,22 +90,20 @@ pub fn tested(
     timer: u64,
 ) -> Single
     requires { Inside storage.old kept.now × Sixteen words.now × InStorage storage.old area }
-    ensures by_index { IsDone result → ((clock : ℕ) (control : List ℕ) → Singles guest clock (start psw timer words.now control) kept.now area storage.old result control storage.new) }
-    ensures storage_unchanged { result.want < calm → storage.new ≡ storage.old }
-    ensures near { (result.want ≡ calm → Near psw (psw_in result psw) × (result.timer ≡ timer)) × (result.a < 2147483648) }
+    ensures singles { IfOk result (λ d. ((clock : ℕ) (control : List ℕ) → Singles guest clock (start psw timer words.now control) kept.now area storage.old d control storage.new)
+        × IfCalm d.change (Near psw (psw_in d psw) × (d.timer ≡ timer))) }
+    ensures wants { IfErr result (λ w. (storage.new ≡ storage.old) × Below w) }
 {
-    let place = lap::land(kept, cpu::instruction_address(psw) as usize);
-    if !place.good {
-        return special::wanting(special::OTHER, 0, timer);
-    }
+    let Some(place) = lap::land(kept, cpu::instruction_address(psw) as usize) else {
+        return Err(Want::Other);
+    };
     if place.at > place.base + LAST {
-        return special::wanting(special::OTHER, 0, timer);
+        return Err(Want::Other);
     }
-    let first = words::half_at(storage, place.at);
+    let first = words::half_at(storage, place.at) as u32;
     let o = decode::decode(psw.system370, first);
     let ilc = o.length;
-    let class = o.class;
-    if dispatch::unassigned(class) {
+    if dispatch::unassigned(o.class) {
         return excepted(
             storage,
             area,
@@ -135,8 +116,7 @@ pub fn tested(
     }
     let text = text_at(storage, place.at, ilc, first);
     let general = Registers { words: *words };
-    let tests = dispatch::tested(o, guest, psw, general, text);
-    match tests {
+    match dispatch::tested(o, guest, psw, general, text) {
         Tests::Excepted(code) => excepted(
             storage,
             area,
@@ -146,7 +126,6 @@ pub fn tested(
             ilc as u32,
             address::exception_of(code),
         ),
-        Tests::Intercepted => special::wanting(special::OTHER, 0, timer),
-        Tests::Clear => special::wanting(special::OTHER, 0, timer),
+        Tests::Intercepted | Tests::Clear => Err(Want::Other),
     }
 }

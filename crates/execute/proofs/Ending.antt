@@ -1,5 +1,6 @@
 -- How the instructions with no operand in storage end.
 -- Assumes nothing.
+use Rattle.std.specs.Prelude.{None}
 use Prim.Native.Nat.{ℕ, ◌+◌, ◌*◌, ◌%◌, ◌≤◌, ◌<◌}
 use native.Mathlib.Nat.{div-one}
 use native.Mathlib.Omega.{arith}
@@ -121,7 +122,7 @@ module _ (h : Host) (x : Progress) {g : Guest} {clock : ℕ} {c : Cpu} {text : T
   pub supervisor_called : text.ilc ≤ 3 → (d : Done) {storage keys : List ℕ} (psw : Psw) (after : Cpu) → psw ≡ (advanced c text.ilc).psw
       → after ≡ with_psw c psw
       → (let word = text.ilc * 131072 + text.first % 256 in
-      Left h g c (interrupt x after supervisor_call_areas (word % 65536) (fields_beside after (code_bytes word 0 false))) d storage keys)
+      Left h g c (interrupt x after supervisor_call_areas (word % 65536) (fields_beside after (code_bytes word None))) d storage keys)
       → Left h g c (supervisor_call x) d storage keys
   unfolding supervisor_call
   supervisor_called short d {storage} {keys} psw after moved set left =

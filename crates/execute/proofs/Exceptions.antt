@@ -1,5 +1,6 @@
 -- An exception by its cases, and the code fields of a program interruption as one word.
 -- Assumes nothing.
+use Rattle.std.specs.Prelude.{None, Some}
 use Prim.Native.Nat.{ℕ, ◌+◌, ◌*◌, ◌/◌, ◌%◌, ◌≤◌, ◌<◌}
 use native.Mathlib.Omega.{arith}
 use mathlib.Core.Path.{◌≡◌, refl, ap, sym, subst, ◌∙◌}
@@ -40,12 +41,19 @@ pub code_of-word : (ilc code : ℕ) → code < 65536 → (ilc * 131072 + code) %
 code_of-word ilc code small = omega arith
 
 -- the code fields of a program interruption, as the code holds them
-pub fields_as_word : (x : Progress) (f : Failure) (ilc : ℕ) {long : Bool} → ilc ≤ 3 → f.code < 65536 → x.text.ilc ≡ ilc → long ≡ is_translation f.code
-    → code_bytes (ilc * 131072 + f.code) f.address long ≡ program_fields x f
+pub long_fields : (x : Progress) (f : Failure) (ilc : ℕ) → ilc ≤ 3 → f.code < 65536 → x.text.ilc ≡ ilc → is_translation f.code ≡ true
+    → code_bytes (ilc * 131072 + f.code) (Some f.address) ≡ program_fields x f
 unfolding program_fields
-fields_as_word x f ilc short small told same =
-    ap (code_bytes (ilc * 131072 + f.code) f.address) same
-    ∙ ap (λ l. l ++ cond (is_translation f.code) (word_bytes f.address) []) (code_word ilc f.code short small ∙ ap (λ n. code_fields n f.code) (sym told))
+long_fields x f ilc short small told long =
+    ap (λ l. l ++ word_bytes f.address) (code_word ilc f.code short small ∙ ap (λ n. code_fields n f.code) (sym told))
+    ∙ ap (λ b. code_fields x.text.ilc f.code ++ cond b (word_bytes f.address) []) (sym long)
+
+pub short_fields : (x : Progress) (f : Failure) (ilc : ℕ) → ilc ≤ 3 → f.code < 65536 → x.text.ilc ≡ ilc → is_translation f.code ≡ false
+    → code_bytes (ilc * 131072 + f.code) None ≡ program_fields x f
+unfolding program_fields
+short_fields x f ilc short small told no_address =
+    code_word ilc f.code short small ∙ ap (λ n. code_fields n f.code) (sym told)
+    ∙ ap (λ b. code_fields x.text.ilc f.code ++ cond b (word_bytes f.address) []) (sym no_address)
 
 taken : {b : Bool} (o p : Outcome) → b ≡ true → cond b o p ≡ o
 taken o p e = ap (λ b. cond b o p) e
@@ -101,3 +109,8 @@ pub exception_of_lem : (h : Host) (x : Progress) {g : Guest} {clock : ℕ} {c : 
     → Left h g c (exception x x.cpu f) d storage keys
 exception_of_lem h x {g} {clock} {c} standing k same f d {storage} {keys} left =
     subst (λ k. Left h g c (exception x k f) d storage keys) (same ∙ sym standing.of_cpu) left
+
+-- and of the state that it is in
+pub exception_of_state : (h : Host) (x : Progress) {g : Guest} {clock : ℕ} {c : Cpu} {text : Text} {t : Frames} → Standing h x g clock c text t
+    → (f : Failure) (d : Done) {storage keys : List ℕ} → Left h g c (exception x x.cpu f) d storage keys → Left h g c (exception x c f) d storage keys
+exception_of_state h x {g} {clock} {c} standing f d {storage} {keys} left = subst (λ k. Left h g c (exception x k f) d storage keys) standing.of_cpu left

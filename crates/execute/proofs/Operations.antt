@@ -1,5 +1,6 @@
 -- The instructions that fetch or store an operand, by where the operand stands.
 -- Assumes nothing.
+use Rattle.std.specs.Prelude.{Err}
 use Prim.Native.Nat.{ℕ, ◌-◌, ◌≤◌, ◌<◌}
 use mathlib.Core.Path.{◌≡◌, refl, ap, sym, ◌∙◌}
 use mathlib.Core.Bool.{true, false}
@@ -17,8 +18,7 @@ use Rattle.machine.specs.Execute.{finish, fetching, storing}
 use Rattle.machine.specs.Run.{marked_by}
 use Rattle.laws.proofs.PageBytes.{marked_append, referenced_twice, changed_twice}
 use Rattle.marks.specs.Marks.{mark_operand}
-use Rattle.operands.specs.declared.Operand.TheVariants.{Open, Shut}
-use Rattle.operands.specs.Operands.{operand_of}
+use Rattle.operands.specs.Operands.{operand_of, in_pieces}
 use Rattle.operands.proofs.Operands.{operand_shut, operand_open}
 use Rattle.interruptions.specs.After.{event_of, cpu_after, storage_after, keys_after, Completes}
 use Rattle.interruptions.proofs.Areas.{places-with_bytes}
@@ -35,13 +35,13 @@ finish_completes h x c = record {
 }
 
 module _ (h : Host) (x : Progress) (viewed : x.view ≡ view x.guest h) (a n : ℕ) (wrapped : wrap x.cpu a ≡ a) (some : 0 < n) (few : n ≤ 4096) where
-  pub fetching_shut : (f : Failure) (after : List ℕ → Cpu) → operand_of x.guest h x.cpu false a n ≡ Shut f
+  pub fetching_shut : (f : Failure) (after : List ℕ → Cpu) → operand_of x.guest h x.cpu false a n ≡ Err f
       → fetching x a n after ≡ exception x x.cpu f
   unfolding fetching when_reached
   fetching_shut f after shut = rw (viewed, operand_shut x.guest h x.cpu false a n wrapped some few shut)
 
   -- an operand that is fetched gives the state, and its frames are marked after the text's
-  pub fetching_open : (p m q : ℕ) (after : List ℕ → Cpu) → operand_of x.guest h x.cpu false a n ≡ Open p m q
+  pub fetching_open : (p m q : ℕ) (after : List ℕ → Cpu) → operand_of x.guest h x.cpu false a n ≡ in_pieces p m q
       → Completes (backing x.guest h) (fetching x a n after)
       (after (take m (drop p h.storage) ++ take (n - m) (drop q h.storage)))
       (λ t. t)
@@ -57,13 +57,13 @@ module _ (h : Host) (x : Progress) (viewed : x.view ≡ view x.guest h) (a n : �
         keys = λ k. rw (append-nil, marked_append) (opened.marks referenced referenced_twice _);
       })
 
-  pub storing_shut : (f : Failure) (bytes : List ℕ) (c : Cpu) → length bytes ≡ n → operand_of x.guest h x.cpu true a n ≡ Shut f
+  pub storing_shut : (f : Failure) (bytes : List ℕ) (c : Cpu) → length bytes ≡ n → operand_of x.guest h x.cpu true a n ≡ Err f
       → storing x a bytes c ≡ exception x x.cpu f
   unfolding storing when_reached
   storing_shut f bytes c long shut = rw (long, viewed, operand_shut x.guest h x.cpu true a n wrapped some few shut)
 
   -- an operand that is stored leaves the state, and its frames are marked after the text's
-  pub storing_open : (p m q : ℕ) (bytes : List ℕ) (c : Cpu) → length bytes ≡ n → operand_of x.guest h x.cpu true a n ≡ Open p m q
+  pub storing_open : (p m q : ℕ) (bytes : List ℕ) (c : Cpu) → length bytes ≡ n → operand_of x.guest h x.cpu true a n ≡ in_pieces p m q
       → Completes (backing x.guest h) (storing x a bytes c) c (λ t. sets (sets t p (take m bytes)) q (drop m bytes))
       (λ k. mark_operand changed n p m q (mark_operand referenced n p m q (marked (backing x.guest h) referenced x.fetched k)))
   unfolding storing when_reached finish event_of cpu_after storage_after keys_after marked_by

@@ -1,5 +1,6 @@
 -- An instruction with an operand, by what was reached of it.
 -- Assumes nothing.
+use Rattle.std.specs.Prelude.{Err, Ok}
 use Prim.Native.Nat.{ℕ, ◌-◌, ◌≤◌, ◌<◌}
 use native.Mathlib.Omega.{arith}
 use mathlib.Core.Path.{◌≡◌, refl, ap, sym, subst, ◌∙◌}
@@ -8,20 +9,16 @@ use mathlib.Core.List.{List, [], ◌++◌}
 use lib.ListN.{length, take, drop}
 use lib.Seq.{sets}
 use Rattle.machine.specs.declared.Cpu.{Cpu}
-use Rattle.machine.specs.declared.Failure.{Failure}
 use Rattle.machine.specs.declared.Guest.{Guest}
 use Rattle.machine.specs.declared.Text.{Text}
 use Rattle.machine.specs.Refusals.{frames_of}
 use Rattle.machine.specs.Psw.{wrap}
 use Rattle.machine.specs.Host.{Host, host, view, referenced, changed}
 use Rattle.machine.specs.Outcomes.{Progress}
-use Rattle.machine.specs.Interruptions.{exception}
 use Rattle.machine.specs.Execute.{finish, fetching, storing}
 use Rattle.laws.proofs.PageBytes.{wrap_by_mode}
 use Rattle.marks.specs.Marks.{mark_operand}
-use Rattle.operands.specs.declared.Operand.{Operand}
-use Rattle.operands.specs.declared.Operand.TheVariants.{Open, Shut}
-use Rattle.operands.specs.Operands.{operand_of}
+use Rattle.operands.specs.Operands.{operand_of, Operand}
 use Rattle.operands.proofs.Operands.{operand_open}
 use Rattle.operands.proofs.Reached.{operand_code, operand_keys}
 use Rattle.interruptions.specs.declared.Done.{Done}
@@ -29,7 +26,7 @@ use Rattle.interruptions.specs.declared.Event.TheVariants as event
 use Rattle.interruptions.specs.declared.Frames.{Frames}
 use Rattle.interruptions.specs.After.{left_by, mark_text, Standing, Left}
 use Rattle.interruptions.proofs.Leaving.{left_completed}
-use Rattle.execute.specs.declared.Reached.{Reached}
+use Rattle.pieces.specs.declared.Pieces.{Pieces}
 use Rattle.execute.specs.Reaching.{InReach, Reaches}
 use Rattle.execute.proofs.Operations.{fetching_shut, fetching_open, storing_shut, storing_open, finish_completes}
 
@@ -46,17 +43,11 @@ pub in_reach : (g : Guest) (d : ℕ) (s k : List ℕ) (c : Cpu) (store : Bool) (
 in_reach g d s k c store a n wrapped some few each = by_operand (operand_of g (host d s k) c store a n) refl
   where
     by_operand : (o : Operand) → operand_of g (host d s k) c store a n ≡ o → InReach s k n o
-    by_operand (Shut f) e = operand_code g (host d s k) c store a n e
-    by_operand (Open p m q) e =
+    by_operand (Err f) e = operand_code g (host d s k) c store a n e
+    by_operand (Ok at) e =
         let (ls, reached, opened) = operand_open g (host d s k) c store a n wrapped some few e in
         let (first, second) = operand_keys g d s k c store a n each e in
         (opened.few, opened.first, opened.second, first, second)
-
--- an operand that is shut ends the unit with its exception
-pub reaches_shut : (h : Host) (g : Guest) (x : Progress) (c : Cpu) (t : Frames) (store : Bool) (n : ℕ) (r : Reached) {storage keys : List ℕ} {o : Operand} (f : Failure) (k : Cpu)
-    → o ≡ Shut f → r.shut ≡ true → k ≡ c → Left h g c (exception x k f) r.done storage keys → Reaches h g x c t store n r storage keys o
-reaches_shut h g x c t store n r {storage} {keys} f k found shut same left =
-    subst (Reaches h g x c t store n r storage keys) (sym found) (shut, subst (λ k. Left h g c (exception x k f) r.done storage keys) same left)
 
 -- the unit in progress that stands so, but for what is fetched
 abbrev pub progress_of : Host → Guest → ℕ → Cpu → Text → List ℕ → Progress
@@ -83,80 +74,48 @@ module _ (h : Host) (x : Progress) {g : Guest} {clock : ℕ} {c : Cpu} {text : T
       (left_completed h g c _ d (finish_completes h (progress_of h g clock c text x.fetched) to) ended left refl
       (marks ∙ sym (standing.marks h.keys)))
 
-  module _ (a n : ℕ) (wrapped : wrap c a ≡ a) (some : 0 < n) (few : n ≤ 4096) (r : Reached) (storage keys : List ℕ) where
-    pub fetched_shut : (after : List ℕ → Cpu) → Reaches h g x c t false n r storage keys (operand_of g h c false a n) → r.shut ≡ true
-        → Left h g c (fetching x a n after) r.done storage keys
-    fetched_shut after =
-        at_standing (λ x. Reaches h g x c t false n r storage keys (operand_of g h c false a n) → r.shut ≡ true → Left h g c (fetching x a n after) r.done storage keys)
-        h x standing (λ reaches. by_operand (operand_of g h c false a n) refl reaches)
-      where
-        y : Progress
-        y = progress_of h g clock c text x.fetched
+  abbrev y : Progress
+  y = progress_of h g clock c text x.fetched
 
-        by_operand : (o : Operand) → operand_of g h c false a n ≡ o → Reaches h g y c t false n r storage keys o → r.shut ≡ true
-            → Left h g c (fetching y a n after) r.done storage keys
-        by_operand (Shut f) e (_, left) shut =
-            subst (λ o. Left h g c o r.done storage keys) (sym (fetching_shut h y refl a n wrapped some few f after e)) left
-        by_operand (Open p m q) e (found, _, _, _, _, _) shut = not_both shut found
-
-    pub fetched_open : (after : List ℕ → Cpu) → Reaches h g x c t false n r storage keys (operand_of g h c false a n) → r.shut ≡ false
-        → (d : Done) → d.event ≡ event.Completed
-        → left_by c d ≡ after (take r.count (drop r.first storage) ++ take (n - r.count) (drop r.second storage))
+  module _ (a n : ℕ) (wrapped : wrap c a ≡ a) (some : 0 < n) (few : n ≤ 4096) (storage keys : List ℕ) where
+    pub fetched_shut : (after : List ℕ → Cpu) (d : Done) → Reaches h g x c t false n (Err d) storage keys (operand_of g h c false a n)
         → Left h g c (fetching x a n after) d storage keys
-    fetched_open after =
-        at_standing (λ x. Reaches h g x c t false n r storage keys (operand_of g h c false a n) → r.shut ≡ false → (d : Done) → d.event ≡ event.Completed
-        → left_by c d ≡ after (take r.count (drop r.first storage) ++ take (n - r.count) (drop r.second storage)) → Left h g c (fetching x a n after) d storage keys)
-        h x standing (λ reaches. by_operand (operand_of g h c false a n) refl reaches)
-      where
-        y : Progress
-        y = progress_of h g clock c text x.fetched
+    fetched_shut after d =
+        at_standing (λ x. Reaches h g x c t false n (Err d) storage keys (operand_of g h c false a n) → Left h g c (fetching x a n after) d storage keys)
+        h x standing
+        (λ (f, e, left). subst (λ o. Left h g c o d storage keys) (sym (fetching_shut h y refl a n wrapped some few f after e)) left)
 
-        by_operand : (o : Operand) → operand_of g h c false a n ≡ o → Reaches h g y c t false n r storage keys o → r.shut ≡ false → (d : Done)
-            → d.event ≡ event.Completed
-            → left_by c d ≡ after (take r.count (drop r.first storage) ++ take (n - r.count) (drop r.second storage))
-            → Left h g c (fetching y a n after) d storage keys
-        by_operand (Shut f) e (shut, _) found d ended left = not_both shut found
-        by_operand (Open p m q) e (_, first, count, second, bytes, marks) found d ended left =
-            left_completed h g c _ d (fetching_open h y refl a n wrapped some few p m q after e) ended
-            (left ∙ (λ i. after (take (count i) (drop (first i) (bytes i)) ++ take (n - count i) (drop (second i) (bytes i)))))
-            bytes
-            (marks ∙ ap (mark_operand referenced n p m q) (sym (standing.marks h.keys)))
+    pub fetched_open : (after : List ℕ → Cpu) (at : Pieces) → Reaches h g x c t false n (Ok at) storage keys (operand_of g h c false a n)
+        → (d : Done) → d.event ≡ event.Completed
+        → left_by c d ≡ after (take at.count (drop at.first storage) ++ take (n - at.count) (drop at.second storage))
+        → Left h g c (fetching x a n after) d storage keys
+    fetched_open after at =
+        at_standing (λ x. Reaches h g x c t false n (Ok at) storage keys (operand_of g h c false a n) → (d : Done) → d.event ≡ event.Completed
+        → left_by c d ≡ after (take at.count (drop at.first storage) ++ take (n - at.count) (drop at.second storage)) → Left h g c (fetching x a n after) d storage keys)
+        h x standing
+        (λ (e, bytes, marks) d ended left.
+        left_completed h g c _ d (fetching_open h y refl a n wrapped some few at.first at.count at.second after e) ended
+        (left ∙ ap (λ s. after (take at.count (drop at.first s) ++ take (n - at.count) (drop at.second s))) bytes)
+        bytes
+        (marks ∙ ap (mark_operand referenced n at.first at.count at.second) (sym (standing.marks h.keys))))
 
-    module _ (bytes : List ℕ) (to : Cpu) (long : length bytes ≡ n) where
-      pub stored_shut : Reaches h g x c t true n r storage keys (operand_of g h c true a n) → r.shut ≡ true
-          → Left h g c (storing x a bytes to) r.done storage keys
+    module _ (bytes : List ℕ) (to : Cpu) (long : length bytes ≡ n) (d : Done) where
+      pub stored_shut : Reaches h g x c t true n (Err d) storage keys (operand_of g h c true a n) → Left h g c (storing x a bytes to) d storage keys
       stored_shut =
-          at_standing (λ x. Reaches h g x c t true n r storage keys (operand_of g h c true a n) → r.shut ≡ true → Left h g c (storing x a bytes to) r.done storage keys)
-          h x standing (λ reaches. by_operand (operand_of g h c true a n) refl reaches)
-        where
-          y : Progress
-          y = progress_of h g clock c text x.fetched
+          at_standing (λ x. Reaches h g x c t true n (Err d) storage keys (operand_of g h c true a n) → Left h g c (storing x a bytes to) d storage keys)
+          h x standing
+          (λ (f, e, left). subst (λ o. Left h g c o d storage keys) (sym (storing_shut h y refl a n wrapped some few f bytes to long e)) left)
 
-          by_operand : (o : Operand) → operand_of g h c true a n ≡ o → Reaches h g y c t true n r storage keys o → r.shut ≡ true
-              → Left h g c (storing y a bytes to) r.done storage keys
-          by_operand (Shut f) e (_, left) shut =
-              subst (λ o. Left h g c o r.done storage keys) (sym (storing_shut h y refl a n wrapped some few f bytes to long e)) left
-          by_operand (Open p m q) e (found, _, _, _, _, _) shut = not_both shut found
-
-      pub stored_open : Reaches h g x c t true n r storage keys (operand_of g h c true a n) → r.shut ≡ false
-          → (d : Done) {final : List ℕ} → d.event ≡ event.Completed → left_by c d ≡ to
-          → final ≡ sets (sets storage r.first (take r.count bytes)) r.second (drop r.count bytes)
+      pub stored_open : (at : Pieces) → Reaches h g x c t true n (Ok at) storage keys (operand_of g h c true a n)
+          → {final : List ℕ} → d.event ≡ event.Completed → left_by c d ≡ to
+          → final ≡ sets (sets storage at.first (take at.count bytes)) at.second (drop at.count bytes)
           → Left h g c (storing x a bytes to) d final keys
-      stored_open reaches found d {final} =
-          at_standing (λ x. Reaches h g x c t true n r storage keys (operand_of g h c true a n) → r.shut ≡ false → d.event ≡ event.Completed → left_by c d ≡ to
-          → final ≡ sets (sets storage r.first (take r.count bytes)) r.second (drop r.count bytes) → Left h g c (storing x a bytes to) d final keys)
-          h x standing (λ reaches. by_operand (operand_of g h c true a n) refl reaches)
-          reaches found
-        where
-          y : Progress
-          y = progress_of h g clock c text x.fetched
-
-          by_operand : (o : Operand) → operand_of g h c true a n ≡ o → Reaches h g y c t true n r storage keys o → r.shut ≡ false
-              → d.event ≡ event.Completed → left_by c d ≡ to
-              → final ≡ sets (sets storage r.first (take r.count bytes)) r.second (drop r.count bytes)
-              → Left h g c (storing y a bytes to) d final keys
-          by_operand (Shut f) e (shut, _) found ended left stores = not_both shut found
-          by_operand (Open p m q) e (_, first, count, second, same, marks) found ended left stores =
-              left_completed h g c _ d (storing_open h y refl a n wrapped some few p m q bytes to long e) ended left
-              (stores ∙ (λ i. sets (sets (same i) (first i) (take (count i) bytes)) (second i) (drop (count i) bytes)))
-              (marks ∙ ap (λ k. mark_operand changed n p m q (mark_operand referenced n p m q k)) (sym (standing.marks h.keys)))
+      stored_open at reaches {final} =
+          at_standing (λ x. Reaches h g x c t true n (Ok at) storage keys (operand_of g h c true a n) → d.event ≡ event.Completed → left_by c d ≡ to
+          → final ≡ sets (sets storage at.first (take at.count bytes)) at.second (drop at.count bytes) → Left h g c (storing x a bytes to) d final keys)
+          h x standing
+          (λ (e, same, marks) ended left stores.
+          left_completed h g c _ d (storing_open h y refl a n wrapped some few at.first at.count at.second bytes to long e) ended left
+          (stores ∙ ap (λ s. sets (sets s at.first (take at.count bytes)) at.second (drop at.count bytes)) same)
+          (marks ∙ ap (λ k. mark_operand changed n at.first at.count at.second (mark_operand referenced n at.first at.count at.second k)) (sym (standing.marks h.keys))))
+          reaches

@@ -1,7 +1,7 @@
 // What the instructions share: exceptions put into effect, and operands that are reached.
 #![tactic(auto)]
 
-ghost use Rattle.std.specs.Prelude.{◌≡◌, ℕ, ◌/◌, ◌≤◌, ◌<◌, false, ◌&&◌, eqb, length};
+ghost use Rattle.std.specs.Prelude.{◌≡◌, ℕ, ◌≤◌, ◌<◌, ◌&&◌, eqb, length};
 ghost use Rattle.machine.specs.Psw.{wrap, with_psw};
 ghost use Rattle.machine.specs.Words.{bit};
 ghost use Rattle.machine.specs.Refusals.{frames_of};
@@ -12,36 +12,23 @@ ghost use Rattle.machine.specs.Interruptions.{program_areas, program_fields, aft
 ghost use Rattle.storage.specs.Entered.{Entered};
 ghost use Rattle.operands.specs.Operands.{operand_of};
 ghost use Rattle.interruptions.specs.After.{WithKeys, left_by, Before, Standing, Left, areas_of, ilc_of, code_of, fields_of, InPrefixPage};
-ghost use Rattle.execute.specs.Reaching.{Ready, InReach, Reaches, Within, Does, mark_all};
+ghost use Rattle.execute.specs.Reaching.{Ready, InReach, Reaches, Within, Does};
 
-use interruptions::{Done, Event, Frames, Interruption};
+use interruptions::{
+    Done, Event, Frames, Interruption, OPERATION, PAGE_TRANSLATION, SEGMENT_TRANSLATION,
+};
 use machine::{Cpu, Failure, Guest, Psw, Reason, Text};
 use operands::Operand;
+use pieces::Pieces;
 
-// An operand that an instruction has reached: where its bytes stand, as in address's Operand; or how the unit ended.
-#[derive(Clone, Copy)]
-pub struct Reached {
-    pub shut: bool,
-    pub first: u32,
-    pub count: u32,
-    pub second: u32,
-    pub done: Done,
-}
-
-const OPERATION: u32 = 1;
-
-const SEGMENT: u32 = 16;
-
-const PAGE: u32 = 17;
+// What an instruction reaches of an operand: where its bytes stand, or how the unit ended.
+pub type Reached = Result<Pieces, Done>;
 
 // A segment or page translation exception.
 fn translation(code: u32) -> bool
     ensures { result ≡ is_translation code }
 {
-    if code == SEGMENT {
-        return true;
-    }
-    code == PAGE
+    code == SEGMENT_TRANSLATION || code == PAGE_TRANSLATION
 }
 
 // The PSW behind an exception: at the instruction after a translation exception or with ILC 0, otherwise past it.
@@ -49,23 +36,18 @@ pub fn after_exception(psw: Psw, ilc: u8, code: u32) -> Psw
     requires { ilc ≤ 3 }
     ensures { (x : Progress) (c : Cpu) (f : Failure) → x.text.ilc ≡ ilc → f.code ≡ code → c.psw ≡ psw → with_psw c result ≡ after_exception x c f }
 {
-    if translation(code) {
-        return psw;
+    if translation(code) || ilc == 0 {
+        psw
+    } else {
+        cpu::advanced(psw, ilc as u32)
     }
-    if ilc == 0 {
-        return psw;
-    }
-    cpu::advanced(psw, ilc as u32)
 }
 
 // An operation exception that the guest's controls intercept.
 fn intercepts_operation(guest: Guest, code: u32) -> bool
     ensures { result ≡ (eqb code operation && bit 8 0 guest.interceptions) }
 {
-    if code == OPERATION {
-        return guest.interceptions / 128 % 2 == 1;
-    }
-    false
+    code == OPERATION && guest.interceptions / 128 % 2 == 1
 }
 
 // The program interruption of an exception.
@@ -79,8 +61,11 @@ pub fn program_interruption(ilc: u8, f: Failure) -> Interruption
         code: 140,
         new: 104,
         word: ilc as u32 * 131072 + f.code,
-        address: f.address,
-        long: translation(f.code),
+        address: if translation(f.code) {
+            Some(f.address)
+        } else {
+            None
+        },
     }
 }
 
@@ -108,7 +93,11 @@ pub fn exception(
     }
     let psw = after_exception(after.psw, text.ilc, f.code);
     if intercepts_operation(guest, f.code) {
-        return interruptions::ended_with(Event::Intercepted(Reason::Operation(text)), after, psw);
+        return Done {
+            event: Event::Intercepted(Reason::Operation(text)),
+            psw,
+            ..after
+        };
     }
     if guest.interceptions / 64 % 2 == 1 {
         let reason = Reason::Program {
@@ -116,20 +105,14 @@ pub fn exception(
             ilc: text.ilc,
             address: f.address,
         };
-        return interruptions::ended_with(Event::Intercepted(reason), after, psw);
+        return Done {
+            event: Event::Intercepted(reason),
+            psw,
+            ..after
+        };
     }
     let i = program_interruption(text.ilc, f);
-    let took = interruptions::take(
-        storage,
-        keys,
-        designation,
-        guest.prefix,
-        guest.origin,
-        guest.extent,
-        psw,
-        i,
-        t,
-    );
+    let took = interruptions::take(storage, keys, designation, guest, psw, i, t);
     interruptions::interrupted(start, after, took)
 }
 
@@ -152,72 +135,6 @@ pub fn excepted(
     exception(storage, keys, designation, guest, cpu.psw, done, text, f, t)
 }
 
-// An operand of n bytes that is open: the marks of the text and of its bytes are made.
-fn reach_open(
-    keys: &mut [u8],
-    cpu: Cpu,
-    t: Frames,
-    store: bool,
-    n: u32,
-    first: u32,
-    count: u32,
-    second: u32,
-) -> Reached
-    requires with_keys { WithKeys keys.old t }
-    requires first_in_bounds { (first / 4096 < length keys.old) × (count < n → second / 4096 < length keys.old) }
-    ensures shut_value { (result.shut ≡ false) × (result.first ≡ first) × (result.count ≡ count) × (result.second ≡ second) }
-    ensures keys_after { keys.new ≡ mark_all t store n first count second keys.old }
-{
-    interruptions::mark_text(keys, t);
-    marks::mark_operand(keys, n, first, count, second, store);
-    let done = interruptions::with_psw(cpu, cpu.psw);
-    Reached {
-        shut: false,
-        first,
-        count,
-        second,
-        done,
-    }
-}
-
-// An operand of n bytes, by where it stands: the unit ends where it is shut, and the marks are made where it is open.
-fn reach_by(
-    storage: &mut [u8],
-    keys: &mut [u8],
-    designation: u32,
-    guest: Guest,
-    cpu: Cpu,
-    text: Text,
-    t: Frames,
-    store: bool,
-    n: u32,
-    operand: Operand,
-) -> Reached
-    requires ready { Ready storage.old keys.old guest text t }
-    requires in_reach { InReach storage.old keys.old n operand }
-    ensures reaches { (x : Progress) (clock : ℕ) → Standing (host designation storage.old keys.old) x guest clock cpu text t
-        → Reaches (host designation storage.old keys.old) guest x cpu t store n result storage.new keys.new operand }
-    ensures within { Within storage.new n result }
-{
-    match operand {
-        Operand::Shut(f) => {
-            let done = excepted(storage, keys, designation, guest, cpu, text, t, f);
-            Reached {
-                shut: true,
-                first: 0,
-                count: 0,
-                second: 0,
-                done,
-            }
-        }
-        Operand::Open {
-            first,
-            count,
-            second,
-        } => reach_open(keys, cpu, t, store, n, first, count, second),
-    }
-}
-
 // Where the operand of n bytes at a wrapped logical address of this CPU stands.
 fn operand_of(
     storage: &[u8],
@@ -234,9 +151,17 @@ fn operand_of(
     ensures value { result ≡ operand_of guest (host designation storage.now keys.now) cpu store a n }
     ensures in_reach { InReach storage.now keys.now n result }
 {
-    let psw = cpu.psw;
-    let control = cpu.control;
-    operands::find_operand(storage, keys, designation, guest, psw, control, store, a, n)
+    operands::find_operand(
+        storage,
+        keys,
+        designation,
+        guest,
+        cpu.psw,
+        cpu.control,
+        store,
+        a,
+        n,
+    )
 }
 
 // Reaches the operand of n bytes at a wrapped logical address: every access is known good before anything is stored or marked.
@@ -259,17 +184,12 @@ pub fn reach(
         (operand_of guest (host designation storage.old keys.old) cpu store a n) }
     ensures within { Within storage.new n result }
 {
-    let operand = operand_of(storage, keys, designation, guest, cpu, store, a, n);
-    reach_by(
-        storage,
-        keys,
-        designation,
-        guest,
-        cpu,
-        text,
-        t,
-        store,
-        n,
-        operand,
-    )
+    match operand_of(storage, keys, designation, guest, cpu, store, a, n) {
+        Err(f) => Err(excepted(storage, keys, designation, guest, cpu, text, t, f)),
+        Ok(at) => {
+            interruptions::mark_text(keys, t);
+            marks::mark_operand(keys, n, at, store);
+            Ok(at)
+        }
+    }
 }

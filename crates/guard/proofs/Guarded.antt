@@ -1,5 +1,6 @@
 -- What stays as it is while storage stays alike in the frames that a guard names.
 -- Assumes nothing.
+use Rattle.std.specs.Prelude.{Err, Ok}
 use Prim.Native.Nat.{ℕ, ◌+◌, ◌*◌, ◌/◌, ◌%◌, ◌≤◌, ◌<◌}
 use native.Mathlib.Omega.{arith}
 use mathlib.Core.Path.{◌≡◌, refl, sym, ap, subst, ◌∙◌}
@@ -12,16 +13,12 @@ use borrow.Author.Tests.{ltb-true, leb-true, le-ltb, eqb-true, eqb-false}
 use Rattle.machine.specs.declared.Cpu.{Cpu}
 use Rattle.machine.specs.declared.Failure.{Failure}
 use Rattle.machine.specs.declared.Guest.{Guest}
-use Rattle.machine.specs.declared.TableEntry.{TableEntry}
-use Rattle.machine.specs.declared.TableEntry.TheVariants.{Word, Unread}
-use Rattle.machine.specs.declared.Walk.{Walk}
-use Rattle.machine.specs.declared.Walk.TheVariants.{Page, Failed}
 use Rattle.machine.specs.Words.{word_at}
 use Rattle.machine.specs.Sizes.{page_bytes}
 use Rattle.machine.specs.Entry.{extent_bytes}
 use Rattle.machine.specs.Psw.{dat_on, control}
 use Rattle.machine.specs.Failures.{addressing, protection, translation_specification, host_fault, exception_of, walk_exception}
-use Rattle.machine.specs.Walk.{segment_index, page_index, segment_entry_at, page_entry_at, past_segment_table, walk_page, walk_segment, walk}
+use Rattle.machine.specs.Walk.{segment_index, page_index, segment_entry_at, page_entry_at, past_segment_table, walk_page, walk_segment, walk, TableEntry, Walk, at_frame}
 use Rattle.machine.specs.Host.{host, host_virtual, in_frame, host_entry, in_storage, host_page, backing, view}
 use Rattle.machine.specs.Addresses.{prefixed, guest_entry, format_good, low_protected, real_page}
 use Rattle.machine.proofs.Laws.{word_of_bytes}
@@ -30,7 +27,6 @@ use Rattle.laws.proofs.Pages.{prefixed_keeps_offset, backing-in_storage}
 use Rattle.storage.specs.Steps.{read_through, table_leads, segment_leads}
 use Rattle.storage.proofs.Steps.{walk_in_steps}
 use Rattle.address.specs.Touching.{entry_behind, touched, touch_of}
-use Rattle.address.specs.declared.Place.TheVariants.{Denied}
 use Rattle.address.proofs.Touches.{guest-entry-behind, touched_is}
 use Rattle.guard.specs.Guarding.{Names, Wider, Alike}
 
@@ -63,16 +59,16 @@ module _ (guard s t : List ℕ) (alike : Alike guard s t) where
   host-entry-alike : (v at : ℕ) → at % 4 ≡ 0 → (at + 4 ≤ length s → Names guard (at / 4096)) → host_entry t v at ≡ host_entry s v at
   unfolding host_entry
   host-entry-alike v at aligned named =
-      rw alike.long (same_test (leb (at + 4) (length s)) (λ e. ap Word (word-alike at aligned (named (leb-true _ _ e)))) (λ _. refl))
+      rw alike.long (same_test (leb (at + 4) (length s)) (λ e. ap Ok (word-alike at aligned (named (leb-true _ _ e)))) (λ _. refl))
 
   in_storage-alike : (v : ℕ) (w : Walk) → in_storage t v w ≡ in_storage s v w
   unfolding in_storage
-  in_storage-alike v (Failed f) = refl
-  in_storage-alike v (Page frame protected) = rw alike.long
+  in_storage-alike v (Err f) = refl
+  in_storage-alike v (Ok page) = rw alike.long
 
   -- the page entry of a segment entry that the walk has read
   page-alike : (v index e : ℕ) → Names guard (page_entry_at e index / 4096)
-      → walk_segment (host_entry t v) (host_fault v) index (Word e) ≡ walk_segment (host_entry s v) (host_fault v) index (Word e)
+      → walk_segment (host_entry t v) (host_fault v) index (Ok e) ≡ walk_segment (host_entry s v) (host_fault v) index (Ok e)
   unfolding walk_segment
   page-alike v index e named = rw (host-entry-alike v (page_entry_at e index) (omega arith) (λ _. named))
 
@@ -82,8 +78,8 @@ module _ (guard s t : List ℕ) (alike : Alike guard s t) where
   segment-alike v index at named = by_test (leb (at + 4) (length s)) refl
     where
       by_test : (b : Bool) → leb (at + 4) (length s) ≡ b
-          → walk_segment (host_entry t v) (host_fault v) index (cond b (Word (word_at s at)) (Unread (host_fault v addressing)))
-          ≡ walk_segment (host_entry s v) (host_fault v) index (cond b (Word (word_at s at)) (Unread (host_fault v addressing)))
+          → walk_segment (host_entry t v) (host_fault v) index (cond b (Ok (word_at s at)) (Err (host_fault v addressing)))
+          ≡ walk_segment (host_entry s v) (host_fault v) index (cond b (Ok (word_at s at)) (Err (host_fault v addressing)))
       by_test true e = page-alike v index (word_at s at) (named (leb-true _ _ e))
       by_test false e = refl
 
@@ -130,8 +126,8 @@ backing-alike guard g d s a below t k alike = same_test (ltb a (extent_bytes g))
 
 -- the frame of a page that is found is named
 abbrev Named : List ℕ → Walk → Type 0
-Named guard (Failed f) = Unit {0}
-Named guard (Page frame protected) = Names guard frame
+Named guard (Err f) = Unit {0}
+Named guard (Ok page) = Names guard page.frame
 
 -- the guest table entry at a guest real address stays as it is
 abbrev RealEntryAlike : List ℕ → Guest → ℕ → List ℕ → ℕ → Type 0
@@ -145,11 +141,11 @@ module _ (g : Guest) (d : ℕ) (s : List ℕ) (real : ℕ) (aligned : real % 4 �
       (by_walk (backing g (host d s []) at) named)
     where
       by_walk : (w : Walk) → Named guard w → entry_behind t at w ≡ entry_behind s at w
-      by_walk (Failed f) named = refl
-      by_walk (Page frame protected) named =
+      by_walk (Err f) named = refl
+      by_walk (Ok page) named =
           let offset = prefixed_keeps_offset g real in
-          let own : frame ≡ in_frame frame at / 4096 = omega arith in
-          ap Word (word-alike guard s t alike (in_frame frame at) (omega arith) (subst (Names guard) own named))
+          let own : page.frame ≡ in_frame page.frame at / 4096 = omega arith in
+          ap Ok (word-alike guard s t alike (in_frame page.frame at) (omega arith) (subst (Names guard) own named))
 
   pub entry_above : (guard : List ℕ) → extent_bytes g ≤ at → RealEntryAlike guard g d s real
   unfolding backing
@@ -159,19 +155,19 @@ module _ (g : Guest) (d : ℕ) (s : List ℕ) (real : ℕ) (aligned : real % 4 �
   pub entry_is : (w : Walk) → backing g (host d s []) at ≡ w → (k : List ℕ) → entry_behind s at w ≡ guest_entry g (view g (host d s k)) real
   entry_is w behind k = rw (guest-entry-behind g d s k real aligned, ← is, behind)
 
-  pub entry_past : extent_bytes g ≤ at → (k : List ℕ) → Unread (exception_of addressing) ≡ guest_entry g (view g (host d s k)) real
+  pub entry_past : extent_bytes g ≤ at → (k : List ℕ) → Err (exception_of addressing) ≡ guest_entry g (view g (host d s k)) real
   unfolding backing entry_behind
-  entry_past above = entry_is (Failed (exception_of addressing)) (rw (le-ltb at (extent_bytes g) above))
+  entry_past above = entry_is (Err (exception_of addressing)) (rw (le-ltb at (extent_bytes g) above))
 
-  pub entry_fits : {frame : ℕ} {protected : Bool} → backing g (host d s []) at ≡ Page frame protected → in_frame frame at + 4 ≤ length s
+  pub entry_fits : {frame : ℕ} {protected : Bool} → backing g (host d s []) at ≡ at_frame frame protected → in_frame frame at + 4 ≤ length s
   entry_fits behind = let offset = prefixed_keeps_offset g real in let whole = backing-in_storage g (host d s []) at behind in omega arith
 
   -- by the host page behind the address
   module _ (guard : List ℕ) (below : HostAlike guard d s (host_virtual g at)) where
-    pub entry_failed : (f : Failure) → backing g (host d s []) at ≡ Failed f → RealEntryAlike guard g d s real
+    pub entry_failed : (f : Failure) → backing g (host d s []) at ≡ Err f → RealEntryAlike guard g d s real
     entry_failed f behind = entry-alike guard (λ _. below) (rw behind tt)
 
-    pub entry_found : (frame : ℕ) (protected : Bool) → backing g (host d s []) at ≡ Page frame protected
+    pub entry_found : (frame : ℕ) (protected : Bool) → backing g (host d s []) at ≡ at_frame frame protected
         → (before more : List ℕ) → Wider before guard → length guard ≡ 64 → more ≡ set guard (frame % 64) 1
         → Wider before more × RealEntryAlike more g d s real
     entry_found frame protected behind before more grown long is_set =
@@ -196,17 +192,17 @@ RealFound guard g d s c a w =
 
 -- the host page behind a byte of a real page stays as it is
 abbrev PageAlike : List ℕ → Guest → ℕ → List ℕ → ℕ → Walk → Type 0
-PageAlike guard g d s a (Failed f) = Unit {0}
-PageAlike guard g d s a (Page frame protected) =
-    prefixed g (frame * page_bytes + a % page_bytes) < extent_bytes g → HostAlike guard d s (host_virtual g (prefixed g (frame * page_bytes + a % page_bytes)))
+PageAlike guard g d s a (Err f) = Unit {0}
+PageAlike guard g d s a (Ok page) =
+    prefixed g (page.frame * page_bytes + a % page_bytes) < extent_bytes g → HostAlike guard d s (host_virtual g (prefixed g (page.frame * page_bytes + a % page_bytes)))
 
 module _ (guard : List ℕ) (g : Guest) (d : ℕ) (s : List ℕ) (c : Cpu) (a : ℕ) where
   -- where no entry is read
-  pub real_off : dat_on c ≡ false → RealFound guard g d s c a (Page (a / page_bytes) false)
+  pub real_off : dat_on c ≡ false → RealFound guard g d s c a (at_frame (a / page_bytes) false)
   unfolding real_page
   real_off off = (λ t k alike. rw off, λ k. rw off)
 
-  pub real_malformed : dat_on c ≡ true → format_good c ≡ false → RealFound guard g d s c a (Failed (exception_of translation_specification))
+  pub real_malformed : dat_on c ≡ true → format_good c ≡ false → RealFound guard g d s c a (Err (exception_of translation_specification))
   unfolding real_page
   real_malformed on bad = (λ t k alike. rw (on, bad), λ k. rw (on, bad))
 
@@ -244,10 +240,10 @@ module _ (guard : List ℕ) (g : Guest) (d : ℕ) (s : List ℕ) (c : Cpu) (a : 
   unfolding touched
   touch_alike w some wider (real, is) page t k store alike =
       touched_is g (host d t k) c store a
-      ∙ ap (cond (store && low_protected c a) (Denied (exception_of protection)))
+      ∙ ap (cond (store && low_protected c a) (Err (exception_of protection)))
       (ap (touched g (host d t k) c store a) (real t k (alike_narrower some guard s t wider alike) ∙ sym (is k)) ∙ by_walk w page ∙ ap (touched g (host d s k) c store a) (is k))
       ∙ sym (touched_is g (host d s k) c store a)
     where
       by_walk : (w : Walk) → PageAlike guard g d s a w → touched g (host d t k) c store a w ≡ touched g (host d s k) c store a w
-      by_walk (Failed f) below = refl
-      by_walk (Page frame protected) below = rw (backing-alike guard g d s (prefixed g (frame * page_bytes + a % page_bytes)) below t k alike)
+      by_walk (Err f) below = refl
+      by_walk (Ok page) below = rw (backing-alike guard g d s (prefixed g (page.frame * page_bytes + a % page_bytes)) below t k alike)

@@ -1,5 +1,6 @@
 -- What accepted input gives the address path, and translate's answer from a byte's place.
 -- Assumes nothing.
+use Rattle.std.specs.Prelude.{Err, Ok}
 use Prim.Native.Nat.{ℕ, ◌/◌, ◌%◌, ◌≤◌, ◌<◌}
 use native.Mathlib.Omega.{arith}
 use mathlib.Core.Path.{◌≡◌, refl, ap, sym, ◌∙◌}
@@ -8,19 +9,15 @@ use mathlib.Core.List.{List}
 use lib.Dec.{eqb}
 use lib.ListN.{length}
 use borrow.Author.Tests.{eq-eqb, ne_eqb, eqb-true, not-false}
+use Rattle.machine.specs.declared.Refusal.TheVariants.{WrongLength}
 use Rattle.machine.specs.declared.Cpu.{Cpu}
 use Rattle.machine.specs.declared.Guest.{Guest}
 use Rattle.machine.specs.declared.Psw.{Psw}
 use Rattle.machine.specs.declared.Registers.{Registers}
-use Rattle.machine.specs.declared.Translated.TheVariants as translated
-use Rattle.machine.specs.declared.Verdict.{Verdict}
-use Rattle.machine.specs.declared.Verdict.TheVariants.{Accepted}
-use Rattle.machine.specs.declared.Walk.{Walk}
-use Rattle.machine.specs.declared.Walk.TheVariants.{Page, Failed}
 use Rattle.machine.specs.Words.{byte_at}
 use Rattle.machine.specs.Entry.{extent_fits, prefix_fits, entry_good}
 use Rattle.machine.specs.Record.{version_for, guest_of, psw_of, cpu_of}
-use Rattle.machine.specs.Refusals.{frames_of, wrong_length, wrong_version, wrong_storage, wrong_keys, check_verdict, translate_verdict}
+use Rattle.machine.specs.Refusals.{frames_of, wrong_length, wrong_version, wrong_storage, wrong_keys, check_verdict, translate_verdict, Verdict, no_refusal}
 use Rattle.machine.specs.Psw.{psw_bit, wrap}
 use Rattle.machine.specs.Host.{Host, Located, backing, view}
 use Rattle.machine.specs.Addresses.{Access, reached, denied, access}
@@ -33,38 +30,39 @@ use Rattle.entry.specs.Modes.{xa_mode}
 use Rattle.entry.proofs.Parts.{entry_xa, xa_mode_lem, long_record}
 use Rattle.address.specs.Touching.{seen, placed, touched_by, touch_of}
 use Rattle.inspect.specs.Answering.{answered}
+use Rattle.machine.specs.Walk.{Walk}
 
-pub checked_length : (r : List ℕ) → check_verdict r ≡ Accepted → 200 ≤ length r
+pub checked_length : (r : List ℕ) → check_verdict r ≡ no_refusal → 200 ≤ length r
 unfolding check_verdict
-checked_length r accepted = good_length r (length_of_right r (accepted_test 1 (wrong_length r) _ accepted).0)
+checked_length r accepted = good_length r (length_of_right r (accepted_test _ (wrong_length r) _ accepted).0)
 
 version_right : (r : List ℕ) → wrong_version r ≡ false → eqb (length r) 208 ≡ eqb (guest_of r).version 2
 unfolding wrong_version
 version_right r right = long_record r (eqb-true (byte_at r 2) (version_for (length r)) (not-false _ right))
 
-pub checked_long : (r : List ℕ) → check_verdict r ≡ Accepted → eqb (length r) 208 ≡ eqb (guest_of r).version 2
+pub checked_long : (r : List ℕ) → check_verdict r ≡ no_refusal → eqb (length r) 208 ≡ eqb (guest_of r).version 2
 unfolding check_verdict
-checked_long r accepted = version_right r (accepted_test 2 (wrong_version r) _ (accepted_test 1 (wrong_length r) _ accepted).1).0
+checked_long r accepted = version_right r (accepted_test _ (wrong_version r) _ (accepted_test _ (wrong_length r) _ accepted).1).0
 
-module _ (r storage keys : List ℕ) (kind : ℕ) (accepted : translate_verdict r storage keys kind ≡ Accepted) where
+module _ (r storage keys : List ℕ) (kind : ℕ) (accepted : translate_verdict r storage keys kind ≡ no_refusal) where
   pub translated_length : 200 ≤ length r
   unfolding translate_verdict
-  translated_length = good_length r (length_of_right r (accepted_test 1 (wrong_length r) _ accepted).0)
+  translated_length = good_length r (length_of_right r (accepted_test _ (wrong_length r) _ accepted).0)
 
   pub translated_long : eqb (length r) 208 ≡ eqb (guest_of r).version 2
   unfolding translate_verdict
-  translated_long = version_right r (accepted_test 2 (wrong_version r) _ (accepted_test 1 (wrong_length r) _ accepted).1).0
+  translated_long = version_right r (accepted_test _ (wrong_version r) _ (accepted_test _ (wrong_length r) _ accepted).1).0
 
   pub translated_keys : frames_of storage ≤ length keys
   unfolding translate_verdict
   translated_keys =
-      let second = (accepted_test 1 (wrong_length r) _ accepted).1 in
-      let third = (accepted_test 2 (wrong_version r) _ second).1 in
-      let fourth = (accepted_test 3 (wrong_storage storage) _ third).1 in
-      omega (arith, keys_of_right storage keys (accepted_test 4 (wrong_keys storage keys) _ fourth).0)
+      let second = (accepted_test _ (wrong_length r) _ accepted).1 in
+      let third = (accepted_test _ (wrong_version r) _ second).1 in
+      let fourth = (accepted_test _ (wrong_storage storage) _ third).1 in
+      omega (arith, keys_of_right storage keys (accepted_test _ (wrong_keys storage keys) _ fourth).0)
 
 -- a record below 200 bytes is refused
-pub too_short : (r : List ℕ) (h : Host) (a kind : ℕ) → length r < 200 → translate r h a kind ≡ translated.Refused 1
+pub too_short : (r : List ℕ) (h : Host) (a kind : ℕ) → length r < 200 → translate r h a kind ≡ Err WrongLength
 unfolding translate translated_as translate_verdict wrong_length
 too_short r h a kind below =
     rw (ne_eqb (length r) 200 (λ short. absurd (omega (arith, below, short))), ne_eqb (length r) 208 (λ long. absurd (omega (arith, below, long))))
@@ -75,16 +73,16 @@ unfolding translate
 translate_by r h a kind is = rw is
 
 pub answered_is : (g : Guest) (h : Host) (c : Cpu) (store : Bool) (a : ℕ)
-    → translated_to g h c a (access g (view g h) c store a) ≡ answered g h c a (touch_of g h c store a)
+    → translated_to g h c a (access g (view g h) c store a) ≡ Ok (answered g h c a (touch_of g h c store a))
 unfolding translated_to touched_by answered address_in placed
 answered_is g h c store a = by_access (access g (view g h) c store a) refl
   where
     by_walk : (l : Located) (w : Walk) → backing g h l.absolute ≡ w → access g (view g h) c store a ≡ reached l
-        → address_in l.absolute w ≡ answered g h c a (placed l.absolute w)
-    by_walk l (Failed f) behind is = absurd (reached_goes g h c a store l f nowhere is (ap (address_in l.absolute) behind))
-    by_walk l (Page frame protected) behind is = refl
+        → address_in l.absolute w ≡ Ok (answered g h c a (placed l.absolute w))
+    by_walk l (Err f) behind is = absurd (reached_goes g h c a store l f nowhere is (ap (address_in l.absolute) behind))
+    by_walk l (Ok page) behind is = refl
 
-    by_access : (x : Access) → access g (view g h) c store a ≡ x → translated_to g h c a x ≡ answered g h c a (touched_by g h x)
+    by_access : (x : Access) → access g (view g h) c store a ≡ x → translated_to g h c a x ≡ Ok (answered g h c a (touched_by g h x))
     by_access (denied f) is = refl
     by_access (reached l) is = by_walk l (backing g h l.absolute) refl is
 

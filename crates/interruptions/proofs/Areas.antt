@@ -1,5 +1,6 @@
 -- An interruption by page: the areas of every class stand in the prefix page, so one host page lies behind them all.
 -- Assumes nothing.
+use Rattle.std.specs.Prelude.{Err}
 use Prim.Native.Nat.{ℕ, zero, suc, ◌+◌, ◌*◌, ◌/◌, ◌≤◌, ◌<◌}
 use native.Mathlib.Nat.{suc_inj, add_assoc}
 use native.Mathlib.Omega.{arith}
@@ -13,7 +14,6 @@ use Rattle.machine.specs.declared.Cpu.{Cpu}
 use Rattle.machine.specs.declared.Failure.{Failure}
 use Rattle.machine.specs.declared.Guest.{Guest}
 use Rattle.machine.specs.declared.Psw.{Psw}
-use Rattle.machine.specs.declared.Walk.TheVariants.{Page, Failed}
 use Rattle.machine.specs.Words.{byte_at, word_at}
 use Rattle.machine.specs.Record.{psw_of, psw_bytes}
 use Rattle.machine.specs.Psw.{with_psw, old_psw}
@@ -27,6 +27,7 @@ use Rattle.laws.proofs.PageBytes.{bytes_from, joined, accesses-append, stored-ap
 use Rattle.laws.proofs.Pages.{backing-in_page}
 use Rattle.marks.specs.Marks.{mark_frame}
 use Rattle.interruptions.specs.After.{event_of, cpu_after, storage_after, keys_after, Completes}
+use Rattle.machine.specs.Walk.{at_frame}
 
 -- bytes to be stored stay at their places
 pub places-with_bytes : (ls : List Located) (bytes : List ℕ) → length ls ≡ length bytes → places (with_bytes ls bytes) ≡ places ls
@@ -46,7 +47,7 @@ mark_frame_twice : (mark : ℕ → ℕ) → ((k : ℕ) → mark (mark k) ≡ mar
     → mark_frame mark frame (mark_frame mark frame keys) ≡ mark_frame mark frame keys
 unfolding bytes_from marked mark_key
 mark_frame_twice mark twice frame keys =
-    marked-in_page mark twice (λ a. Page frame false) keys 0 0 2 keys (omega arith) (λ i low high. refl)
+    marked-in_page mark twice (λ a. at_frame frame false) keys 0 0 2 keys (omega arith) (λ i low high. refl)
 
 -- `n` bytes from real address `a` on, in the prefix page, a frame behind it
 abbrev low_bytes : Guest → Host → ℕ → ℕ → ℕ → List Located
@@ -61,7 +62,7 @@ in_frame-low : (g : Guest) (frame a : ℕ) → a < 4096 → in_frame frame (g.pr
 in_frame-low g frame a low = omega arith
 
 module _ (g : Guest) (h : Host) {frame : ℕ} {protected : Bool}
-    (page : (i : ℕ) → i / 4096 ≡ g.prefix → backing g h i ≡ Page frame protected) where
+    (page : (i : ℕ) → i / 4096 ≡ g.prefix → backing g h i ≡ at_frame frame protected) where
   real_reached : (store : Bool) → (store && protected) ≡ false → (a : ℕ) → a < 4096
       → real_access g (view g h) store a ≡ reached (record { absolute = g.prefix * 4096 + a; byte = byte_at h.storage (frame * 4096 + a) })
   unfolding real_access settle view cell_of
@@ -110,17 +111,17 @@ module _ (h : Host) (x : Progress) (viewed : x.view ≡ view x.guest h) (c : Cpu
   unfolding interrupt when_reached accesses up_from and_then
   interrupt-denied f e = rw (viewed, e)
 
-  pub interrupt_failed : (f : Failure) → backing x.guest h (x.guest.prefix * 4096 + areas.old) ≡ Failed f → interrupt x c areas code fields ≡ faulted f
+  pub interrupt_failed : (f : Failure) → backing x.guest h (x.guest.prefix * 4096 + areas.old) ≡ Err f → interrupt x c areas code fields ≡ faulted f
   unfolding real_access settle view cell_of
   interrupt_failed f failed = interrupt-denied f (simp (prefixed-low x.guest areas.old (omega arith), failed))
 
-  pub interrupt-protected : (frame : ℕ) → backing x.guest h (x.guest.prefix * 4096 + areas.old) ≡ Page frame true
+  pub interrupt-protected : (frame : ℕ) → backing x.guest h (x.guest.prefix * 4096 + areas.old) ≡ at_frame frame true
       → interrupt x c areas code fields ≡ faulted (host_fault (host_virtual x.guest (x.guest.prefix * 4096 + areas.old)) protection)
   unfolding real_access settle view cell_of
   interrupt-protected frame backed = interrupt-denied _ (simp (prefixed-low x.guest areas.old (omega arith), backed))
 
   -- the old PSW and the code fields are stored, the new PSW is fetched, and their frame is marked after the text's
-  pub interrupt_open : (frame : ℕ) → backing x.guest h (x.guest.prefix * 4096 + areas.old) ≡ Page frame false
+  pub interrupt_open : (frame : ℕ) → backing x.guest h (x.guest.prefix * 4096 + areas.old) ≡ at_frame frame false
       → Completes (backing x.guest h) (interrupt x c areas code fields)
       (with_psw c (psw_of c.psw.system370 h.storage (frame * 4096 + areas.new)))
       (λ t. sets (sets t (frame * 4096 + areas.old) (psw_bytes (old_psw c x.text.ilc code))) (frame * 4096 + areas.code) fields)
@@ -155,7 +156,7 @@ module _ (h : Host) (x : Progress) (viewed : x.view ≡ view x.guest h) (c : Cpu
             (marks changed changed_twice _);
       })
     where
-      page : (i : ℕ) → i / 4096 ≡ x.guest.prefix → backing x.guest h i ≡ Page frame false
+      page : (i : ℕ) → i / 4096 ≡ x.guest.prefix → backing x.guest h i ≡ at_frame frame false
       page i same = backing-in_page x.guest h _ i backed (omega arith)
 
       old : List Located

@@ -1,13 +1,14 @@
 -- What `Done` leaves of a state, and when an outcome is left.
 -- Assumes nothing.
+use Rattle.std.specs.Prelude.{Err, Ok, None, Some, Option}
 use Prim.Native.Nat.{ℕ, ◌+◌, ◌-◌, ◌*◌, ◌≤◌}
 use native.Mathlib.Omega.{arith}
 use mathlib.Core.Path.{◌≡◌, refl, ap, sym, subst, ◌∙◌}
-use mathlib.Core.Bool.{Bool, true, false}
+use mathlib.Core.Bool.{true, false}
 use mathlib.Core.List.{List, []}
 use borrow.Rule.Slice.PartMut.{mid_of, put_mid, mid_len}
 use lib.ListN.{length}
-use lib.Seq.{sets, set_out}
+use lib.Seq.{sets}
 use Rattle.machine.specs.declared.Cpu.{Cpu}
 use Rattle.machine.specs.declared.Failure.{Failure}
 use Rattle.machine.specs.declared.Guest.{Guest}
@@ -15,8 +16,6 @@ use Rattle.machine.specs.declared.Psw.{Psw}
 use Rattle.machine.specs.declared.Reason.{Reason}
 use Rattle.machine.specs.declared.Registers.{Registers}
 use Rattle.machine.specs.declared.Text.{Text}
-use Rattle.machine.specs.declared.Walk.{Walk}
-use Rattle.machine.specs.declared.Walk.TheVariants.{Page, Failed}
 use Rattle.machine.specs.Record.{psw_of, psw_bytes}
 use Rattle.machine.specs.Psw.{basic_control, with_psw, with_address, advanced, old_psw}
 use Rattle.machine.specs.Refusals.{frames_of}
@@ -29,39 +28,22 @@ use Rattle.machine.proofs.Tests.{on_either_arm}
 use Rattle.address.specs.Touching.{Inside, Backed}
 use Rattle.address.proofs.Touches.{inside-backing, backed_backing}
 use Rattle.marks.specs.Marks.{mark_frame}
-use Rattle.writer.proofs.Parts.{two_in_part}
+use Rattle.words.proofs.Parts.{two_in_part}
 use Rattle.interruptions.specs.declared.Done.{Done}
 use Rattle.interruptions.specs.declared.Event.{Event}
 use Rattle.interruptions.specs.declared.Event.TheVariants as event
 use Rattle.interruptions.specs.declared.Frames.{Frames}
 use Rattle.interruptions.specs.declared.Interruption.{Interruption}
-use Rattle.interruptions.specs.declared.Took.{Took}
-use Rattle.interruptions.specs.declared.Took.TheVariants.{Shut, Open}
-use Rattle.interruptions.specs.After.{event_of, cpu_after, storage_after, keys_after, Completes, left_by, mark_text, Standing, Left, code_bytes, Before, areas_of, ilc_of, code_of, fields_of, InPrefixPage, Keyed, event_by, cpu_by, Taken}
+use Rattle.interruptions.specs.After.{event_of, cpu_after, storage_after, keys_after, Completes, left_by, mark_text, Standing, Left, code_bytes, areas_of, ilc_of, code_of, fields_of, InPrefixPage, Keyed, event_by, cpu_by, Taken, Took}
 use Rattle.interruptions.proofs.Areas.{interrupt_failed, interrupt-protected, interrupt_open}
-
--- with no register set, the state before the unit is left
-pub unchanged : (c : Cpu) {start : Psw} {after : Done} (how : Event) → Before c start after
-    → left_by c (record { event = how; psw = start; timer = after.timer; control = after.control; register = 16; value = 0 }) ≡ c
-unfolding left_by
-unchanged c how before = λ i. record {
-  psw = sym before.of_psw i;
-  timer = sym before.of_timer i;
-  control = sym before.of_control i;
-  general = record { words = set_out c.general.words 16 0 (omega arith) i };
-}
+use Rattle.machine.specs.Walk.{Walk, at_frame}
 
 -- with no register set, the general registers are as they were
-pub none_set : (c : Cpu) (how : Event) (psw : Psw) (timer : ℕ) (control : Registers) → length c.general.words ≡ 16
-    → left_by c (record { event = how; psw = psw; timer = timer; control = control; register = 16; value = 0 })
+pub none_set : (c : Cpu) (how : Event) (psw : Psw) (timer : ℕ) (control : Registers)
+    → left_by c (record { event = how; psw = psw; timer = timer; control = control; set = None })
     ≡ record { psw = psw; timer = timer; control = control; general = c.general }
 unfolding left_by
-none_set c how psw timer control sixteen = λ i. record {
-  psw = psw;
-  timer = timer;
-  control = control;
-  general = record { words = set_out c.general.words 16 0 (omega arith) i };
-}
+none_set c how psw timer control = refl
 
 -- a host fault is left by the state before the unit, and storage and keys as they were
 pub left_faulted : (h : Host) (g : Guest) (c : Cpu) (f : Failure) (d : Done) {storage keys : List ℕ} → d.event ≡ event.Faulted f → left_by c d ≡ c
@@ -93,14 +75,14 @@ past_it h x standing k psw moved = ap (with_psw k) moved ∙ ap (λ u. advanced 
 
 -- an interruption that is a host fault, and one that is completed with a new PSW
 taken_faulted : (h : Host) (g : Guest) (to : Cpu) (o : Outcome) (f : Failure) {storage keys : List ℕ} → o ≡ faulted f → h.storage ≡ storage → h.keys ≡ keys
-    → Taken h g to o (Shut f) storage keys
+    → Taken h g to o (Err f) storage keys
 unfolding event_of cpu_after storage_after keys_after event_by cpu_by
 taken_faulted h g to o f {storage} {keys} failed bytes marks =
-    subst (λ o. Taken h g to o (Shut f) storage keys) (sym failed) (record { event = refl; cpu = λ _. refl; bytes = sym bytes; marks = sym marks })
+    subst (λ o. Taken h g to o (Err f) storage keys) (sym failed) (record { event = refl; cpu = λ _. refl; bytes = sym bytes; marks = sym marks })
 
 taken_completed : (h : Host) (g : Guest) (to : Cpu) (o : Outcome) (psw : Psw) {new : Psw} {stores marks : List ℕ → List ℕ} {storage keys : List ℕ}
     → Completes (backing g h) o (with_psw to new) stores marks → psw ≡ new → storage ≡ stores h.storage → keys ≡ marks h.keys
-    → Taken h g to o (Open psw) storage keys
+    → Taken h g to o (Ok psw) storage keys
 unfolding event_by cpu_by
 taken_completed h g to o psw all same bytes marks = record {
   event = all.event;
@@ -122,8 +104,8 @@ left_taken h g c to o took d taken ended left = record {
 -- whatever the old PSW is, the new one takes its place
 pub old_replaced : (c to : Cpu) (old : Psw) (took : Took) → cpu_by c to took ≡ cpu_by c (with_psw to old) took
 unfolding cpu_by with_psw
-old_replaced c to old (Shut f) = refl
-old_replaced c to old (Open psw) = refl
+old_replaced c to old (Err f) = refl
+old_replaced c to old (Ok psw) = refl
 
 -- a page that is found behind an absolute address of the guests of this origin and extent lies in the storage and has a key
 pub keyed_found : (origin extent d : ℕ) (s k : List ℕ) (a : ℕ) {w : Walk} → ((g : Guest) → g.origin ≡ origin → g.extent ≡ extent → w ≡ backing g (host d s []) a)
@@ -150,18 +132,18 @@ keyed_found origin extent d s k a {w} found each =
     }
 
     keyed : (w : Walk) → Inside s w → Backed one k a w → Keyed s k w
-    keyed (Failed f) inside backed = tt
-    keyed (Page frame protected) inside (key, small, below) = (inside, key, small)
+    keyed (Err f) inside backed = tt
+    keyed (Ok page) inside (key, small, below) = (inside, key, small)
 
-fields_fit : (word address code : ℕ) (long : Bool) → code + 8 ≤ 4096 → code + length (code_bytes word address long) ≤ 4096
-fields_fit word address code true fits = omega arith
-fields_fit word address code false fits = omega arith
+fields_fit : (word code : ℕ) (address : Option ℕ) → code + 8 ≤ 4096 → code + length (code_bytes word address) ≤ 4096
+fields_fit word code None fits = omega arith
+fields_fit word code (Some address) fits = omega arith
 
 -- the code fields that are stored beside an old PSW stand in the prefix page
 beside_fit : (c : Cpu) (i : Interruption) → InPrefixPage i → i.code + length (fields_beside c (fields_of i)) ≤ 4096
 unfolding fields_beside
 beside_fit c i (old, code, new) =
-    on_either_arm (λ fields. i.code + length fields ≤ 4096) (basic_control c) {u = []} {v = fields_of i} (omega arith) (fields_fit i.word i.address i.code i.long code)
+    on_either_arm (λ fields. i.code + length fields ≤ 4096) (basic_control c) {u = []} {v = fields_of i} (omega arith) (fields_fit i.word i.code i.address code)
 
 -- the areas of an interruption, stored in the part of a frame, are stored at the frame's address
 pub areas_in_frame : (s : List ℕ) (frame : ℕ) (c : Cpu) (i : Interruption) → InPrefixPage i → frame * 4096 + 4096 ≤ length s
@@ -188,8 +170,8 @@ module _ (h : Host) (x : Progress) {g : Guest} {clock : ℕ} {c : Cpu} {text : T
   behind : {w : Walk} → backing g h (g.prefix * 4096 + i.old) ≡ w → backing x.guest h (x.guest.prefix * 4096 + i.old) ≡ w
   behind e = ap (λ k. backing k h (k.prefix * 4096 + i.old)) standing.of_guest ∙ e
 
-  pub interrupted_failed : (f : Failure) {storage keys : List ℕ} → backing g h (g.prefix * 4096 + i.old) ≡ Failed f → h.storage ≡ storage → h.keys ≡ keys
-      → Taken h g to (interrupt x to (areas_of i) (code_of i) (fields_beside to (fields_of i))) (Shut f) storage keys
+  pub interrupted_failed : (f : Failure) {storage keys : List ℕ} → backing g h (g.prefix * 4096 + i.old) ≡ Err f → h.storage ≡ storage → h.keys ≡ keys
+      → Taken h g to (interrupt x to (areas_of i) (code_of i) (fields_beside to (fields_of i))) (Err f) storage keys
   interrupted_failed f failed bytes marks =
       taken_faulted
       h
@@ -213,9 +195,9 @@ module _ (h : Host) (x : Progress) {g : Guest} {clock : ℕ} {c : Cpu} {text : T
       bytes
       marks
 
-  pub interrupted_protected : (frame : ℕ) {storage keys : List ℕ} → backing g h (g.prefix * 4096 + i.old) ≡ Page frame true → (v : ℕ)
+  pub interrupted_protected : (frame : ℕ) {storage keys : List ℕ} → backing g h (g.prefix * 4096 + i.old) ≡ at_frame frame true → (v : ℕ)
       → v ≡ host_virtual g (g.prefix * 4096 + i.old) → h.storage ≡ storage → h.keys ≡ keys
-      → Taken h g to (interrupt x to (areas_of i) (code_of i) (fields_beside to (fields_of i))) (Shut (host_fault v protection)) storage keys
+      → Taken h g to (interrupt x to (areas_of i) (code_of i) (fields_beside to (fields_of i))) (Err (host_fault v protection)) storage keys
   interrupted_protected frame backed v at bytes marks =
       taken_faulted
       h
@@ -241,11 +223,11 @@ module _ (h : Host) (x : Progress) {g : Guest} {clock : ℕ} {c : Cpu} {text : T
       bytes
       marks
 
-  pub interrupted_open : (frame : ℕ) (psw : Psw) {storage keys : List ℕ} → backing g h (g.prefix * 4096 + i.old) ≡ Page frame false
+  pub interrupted_open : (frame : ℕ) (psw : Psw) {storage keys : List ℕ} → backing g h (g.prefix * 4096 + i.old) ≡ at_frame frame false
       → psw ≡ psw_of to.psw.system370 h.storage (frame * 4096 + i.new)
       → storage ≡ sets (sets h.storage (frame * 4096 + i.old) (psw_bytes (old_psw to (ilc_of i) (code_of i)))) (frame * 4096 + i.code) (fields_beside to (fields_of i))
       → keys ≡ mark_frame changed frame (mark_frame referenced frame (mark_text t h.keys))
-      → Taken h g to (interrupt x to (areas_of i) (code_of i) (fields_beside to (fields_of i))) (Open psw) storage keys
+      → Taken h g to (interrupt x to (areas_of i) (code_of i) (fields_beside to (fields_of i))) (Ok psw) storage keys
   interrupted_open frame psw backed new bytes marks =
       taken_completed
       h

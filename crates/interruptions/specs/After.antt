@@ -1,12 +1,10 @@
 -- An outcome put into effect: how the unit ended, and the state, the storage and the keys that it leaves.
-use Rattle.std.specs.Prelude.{ℕ, ◌+◌, ◌*◌, ◌/◌, ◌%◌, ◌≤◌, ◌<◌, ◌≡◌, Bool, cond, List, [], ◌++◌, eqb, length, set}
+use Rattle.std.specs.Prelude.{ℕ, ◌+◌, ◌*◌, ◌/◌, ◌%◌, ◌≤◌, ◌<◌, ◌≡◌, List, ◌++◌, length, set, Err, Ok, Result, None, Some, Option}
 use Rattle.machine.specs.declared.Cpu.{Cpu}
 use Rattle.machine.specs.declared.Guest.{Guest}
 use Rattle.machine.specs.declared.Psw.{Psw}
 use Rattle.machine.specs.declared.Registers.{Registers}
 use Rattle.machine.specs.declared.Text.{Text}
-use Rattle.machine.specs.declared.Walk.{Walk}
-use Rattle.machine.specs.declared.Walk.TheVariants.{Page, Failed}
 use Rattle.machine.specs.Words.{word_bytes}
 use Rattle.machine.specs.Psw.{with_psw}
 use Rattle.machine.specs.Host.{Host, backing, view, referenced, stored, marked}
@@ -18,9 +16,14 @@ use Rattle.interruptions.specs.declared.Done.{Done}
 use Rattle.interruptions.specs.declared.Event.{Event}
 use Rattle.interruptions.specs.declared.Event.TheVariants as event
 use Rattle.interruptions.specs.declared.Frames.{Frames}
+use Rattle.interruptions.specs.declared.Frames.TheVariants as frames
 use Rattle.interruptions.specs.declared.Interruption.{Interruption}
-use Rattle.interruptions.specs.declared.Took.{Took}
-use Rattle.interruptions.specs.declared.Took.TheVariants.{Shut, Open}
+use Rattle.machine.specs.Walk.{Walk}
+use Rattle.machine.specs.declared.Failure.{Failure}
+
+-- how an interruption comes out: the new PSW, or its areas cannot be stored into
+abbrev pub Took : Type 0
+Took = Result Psw Failure
 
 unfoldable pub event_of : Outcome → Event
 event_of (completed c e) = event.Completed
@@ -50,33 +53,35 @@ pub record Completes (behind : ℕ → Walk) (o : Outcome) (c : Cpu) (stores mar
   pub storage : (t : List ℕ) → storage_after behind o t ≡ stores t
   pub keys : (k : List ℕ) → keys_after behind o k ≡ marks k
 
+-- the general registers, one of which may have a new value
+abbrev pub set_by : Option (ℕ × ℕ) → List ℕ → List ℕ
+set_by None words = words
+set_by (Some (i, value)) words = set words i value
+
 -- the state that `Done` leaves of a state
 unfoldable pub left_by : Cpu → Done → Cpu
 left_by c d = record {
   psw = d.psw;
   timer = d.timer;
   control = d.control;
-  general = record { words = set c.general.words d.register d.value };
+  general = record { words = set_by d.set c.general.words };
 }
 
 -- with these control registers
 abbrev pub with_registers : Cpu → Registers → Cpu
 with_registers c control = record { psw = c.psw; timer = c.timer; control = control; general = c.general }
 
--- the same unit, ended with another PSW
-abbrev pub ended_with : Event → Done → Psw → Done
-ended_with how d psw = record { event = how; psw = psw; timer = d.timer; control = d.control; register = d.register; value = d.value }
-
 -- the frames of a text have keys
-pub record WithKeys (keys : List ℕ) (t : Frames) : Type 0 where
-  pub first : 0 < t.count → t.first < length keys
-  pub second : 1 < t.count → t.second < length keys
+abbrev pub WithKeys : List ℕ → Frames → Type 0
+WithKeys keys frames.None = Unit {0}
+WithKeys keys (frames.One first) = first < length keys
+WithKeys keys (frames.Two first second) = (first < length keys) × (second < length keys)
 
 -- the marks of a text that was fetched from these frames
 unfoldable pub mark_text : Frames → List ℕ → List ℕ
-mark_text t keys =
-    cond (eqb t.count 0) keys
-    (cond (eqb t.count 1) (mark_frame referenced t.first keys) (mark_frame referenced t.second (mark_frame referenced t.first keys)))
+mark_text frames.None keys = keys
+mark_text (frames.One first) keys = mark_frame referenced first keys
+mark_text (frames.Two first second) keys = mark_frame referenced second (mark_frame referenced first keys)
 
 -- a unit in progress, as the code holds it
 pub record Standing (h : Host) (x : Progress) (g : Guest) (clock : ℕ) (c : Cpu) (text : Text) (t : Frames) : Type 0 where
@@ -94,16 +99,16 @@ pub record Left (h : Host) (g : Guest) (c : Cpu) (o : Outcome) (d : Done) (stora
   pub bytes : storage ≡ storage_after (backing g h) o h.storage
   pub marks : keys ≡ keys_after (backing g h) o h.keys
 
--- a word, and an address behind it where it is long
-abbrev pub code_bytes : ℕ → ℕ → Bool → List ℕ
-code_bytes word address long = word_bytes word ++ cond long (word_bytes address) []
+-- a word, and an address behind it, if any
+abbrev pub code_bytes : ℕ → Option ℕ → List ℕ
+code_bytes word None = word_bytes word
+code_bytes word (Some address) = word_bytes word ++ word_bytes address
 
 -- the state before the unit, of which the code holds all but the general registers
 pub record Before (c : Cpu) (psw : Psw) (after : Done) : Type 0 where
   pub of_psw : c.psw ≡ psw
   pub of_timer : c.timer ≡ after.timer
   pub of_control : c.control ≡ after.control
-  pub sixteen : length c.general.words ≡ 16
 
 -- the areas of an interruption
 abbrev pub areas_of : Interruption → Areas
@@ -116,9 +121,9 @@ ilc_of i = i.word / 131072 % 4
 abbrev pub code_of : Interruption → ℕ
 code_of i = i.word % 65536
 
--- the code fields of an interruption: a word, and an address behind it where it is long
+-- the code fields of an interruption: a word, and an address behind it, if any
 abbrev pub fields_of : Interruption → List ℕ
-fields_of i = code_bytes i.word i.address i.long
+fields_of i = code_bytes i.word i.address
 
 -- the areas stand in the prefix page
 abbrev pub InPrefixPage : Interruption → Type 0
@@ -126,18 +131,18 @@ InPrefixPage i = (i.old + 8 ≤ 4096) × (i.code + 8 ≤ 4096) × (i.new + 8 ≤
 
 -- a page that is found lies in the storage, and has a key and a frame number of 19 bits
 abbrev pub Keyed : List ℕ → List ℕ → Walk → Type 0
-Keyed storage keys (Failed f) = Unit {0}
-Keyed storage keys (Page frame protected) = (frame * 4096 + 4096 ≤ length storage) × (frame < length keys) × (frame < 524288)
+Keyed storage keys (Err f) = Unit {0}
+Keyed storage keys (Ok page) = (page.frame * 4096 + 4096 ≤ length storage) × (page.frame < length keys) × (page.frame < 524288)
 
 -- how an interruption ends the unit
 unfoldable pub event_by : Took → Event
-event_by (Shut f) = event.Faulted f
-event_by (Open psw) = event.Completed
+event_by (Err f) = event.Faulted f
+event_by (Ok psw) = event.Completed
 
 -- the state that it leaves: the one before the unit, or the one that it came upon, with the new PSW
 unfoldable pub cpu_by : Cpu → Cpu → Took → Cpu
-cpu_by before to (Shut f) = before
-cpu_by before to (Open psw) = with_psw to psw
+cpu_by before to (Err f) = before
+cpu_by before to (Ok psw) = with_psw to psw
 
 -- an interruption of the state `to`, as it came out, is what the outcome says
 pub record Taken (h : Host) (g : Guest) (to : Cpu) (o : Outcome) (took : Took) (storage keys : List ℕ) : Type 0 where

@@ -1,12 +1,11 @@
 -- The interval timer's word by the one host page behind it: its four bytes stand on the prefix page.
 -- Assumes nothing.
+use Rattle.std.specs.Prelude.{Err, Ok}
 use Rattle.std.proofs.Common.{◌≡◌, ℕ, zero, suc, ◌+◌, ◌*◌, ◌/◌, ◌%◌, ◌<◌, ◌≤◌, Bool, true, false, ltb, List, [], ◌∷◌, refl, ap, ◌∙◌, subst, add_assoc, arith, eq-eqb}
 use lib.Seq.{sets}
 use Rattle.machine.specs.declared.Failure.{Failure}
 use Rattle.machine.specs.declared.Guest.{Guest}
 use Rattle.machine.specs.declared.Numbers.{Numbers}
-use Rattle.machine.specs.declared.Walk.{Walk}
-use Rattle.machine.specs.declared.Walk.TheVariants.{Page, Failed}
 use Rattle.machine.specs.Words.{byte_at, word_at, word_bytes}
 use Rattle.machine.specs.Entry.{extent_bytes}
 use Rattle.machine.specs.Failures.{protection, host_fault}
@@ -19,6 +18,7 @@ use Rattle.machine.proofs.Backing.{no_failure, tested, ends_at_page, page-in_sto
 use Rattle.laws.proofs.PageBytes.{bytes_from, word_of_bytes_from, stored-in_page}
 use Rattle.laws.proofs.Pages.{backing-in_page, backing-in_storage}
 use Rattle.interval.specs.Standing.{word_address, word_on, Short, Stands, InStorage}
+use Rattle.machine.specs.Walk.{Walk, at_frame}
 
 -- real block 0 is the prefix block
 pub prefixed-low : (g : Guest) (a : ℕ) → a < 4096 → prefixed g a ≡ g.prefix * 4096 + a
@@ -30,7 +30,7 @@ in_frame-low g frame a low = omega arith
 
 -- bytes behind which one host page lies, read in a storage
 read-in_page : (behind : ℕ → Walk) {f : ℕ} {p : Bool} (s t : List ℕ) (a q n : ℕ) → in_frame f a ≡ q → a % 4096 + n < 4096
-    → ((i : ℕ) → a ≤ i → i < a + n → behind i ≡ Page f p) → bytes_behind behind t (bytes_from s a q n) ≡ bytes_of (bytes_from t a q n)
+    → ((i : ℕ) → a ≤ i → i < a + n → behind i ≡ at_frame f p) → bytes_behind behind t (bytes_from s a q n) ≡ bytes_of (bytes_from t a q n)
 unfolding bytes_from byte_in
 read-in_page behind s t a q zero e fits page = refl
 read-in_page behind {f} s t a q (suc n) e fits page =
@@ -47,16 +47,16 @@ module _ (g : Guest) (h : Host) where
   unfolding accesses up_from and_then
   word-denied f e = rw e
 
-  pub word_failed : (f : Failure) → backing g h (word_address g) ≡ Failed f → word_by g h ≡ stopped f
+  pub word_failed : (f : Failure) → backing g h (word_address g) ≡ Err f → word_by g h ≡ stopped f
   unfolding real_access settle view cell_of
   word_failed f failed = word-denied f (simp (prefixed-low g 80 (omega arith), failed))
 
-  pub word-protected : (frame : ℕ) → backing g h (word_address g) ≡ Page frame true
+  pub word-protected : (frame : ℕ) → backing g h (word_address g) ≡ at_frame frame true
       → word_by g h ≡ stopped (host_fault (host_virtual g (word_address g)) protection)
   unfolding real_access settle view cell_of
   word-protected frame backed = word-denied _ (simp (prefixed-low g 80 (omega arith), backed))
 
-  module _ {frame : ℕ} (page : (i : ℕ) → i / 4096 ≡ g.prefix → backing g h i ≡ Page frame false) where
+  module _ {frame : ℕ} (page : (i : ℕ) → i / 4096 ≡ g.prefix → backing g h i ≡ at_frame frame false) where
     real_reached : (a : ℕ) → a < 4096
         → real_access g (view g h) true a ≡ reached (record { absolute = g.prefix * 4096 + a; byte = byte_at h.storage (frame * 4096 + a) })
     unfolding real_access settle view cell_of
@@ -76,8 +76,8 @@ module _ (g : Guest) (h : Host) where
         )
 
   -- the page of the word may be stored into
-  module _ {frame : ℕ} (open-page : backing g h (word_address g) ≡ Page frame false) where
-    on_page : (i : ℕ) → i / 4096 ≡ g.prefix → backing g h i ≡ Page frame false
+  module _ {frame : ℕ} (open-page : backing g h (word_address g) ≡ at_frame frame false) where
+    on_page : (i : ℕ) → i / 4096 ≡ g.prefix → backing g h i ≡ at_frame frame false
     on_page i same = backing-in_page g h _ i open-page (omega arith)
 
     abbrev pub word_places : List Located
@@ -107,19 +107,23 @@ word_stands n m g here page found =
     own : Guest
     own = guest_of m.description
 
-    by_page : (page : Walk) → backing own (host_of n m) (word_address own) ≡ page → Stands n m (word_on own page)
-    by_page (Failed f) e = word_failed own (host_of n m) f e
-    by_page (Page frame true) e = word-protected own (host_of n m) frame e
-    by_page (Page frame false) e = record {
+    found_there : (frame : ℕ) (protected : Bool) → backing own (host_of n m) (word_address own) ≡ at_frame frame protected
+        → Stands n m (word_on own (at_frame frame protected))
+    found_there frame true e = word-protected own (host_of n m) frame e
+    found_there frame false e = record {
       at = word_places own (host_of n m) e;
       reached = word_open own (host_of n m) e;
       read = λ after. word_read own (host_of n m) e after.storage;
       put = λ w s. word_put own (host_of n m) e w s;
     }
 
+    by_page : (page : Walk) → backing own (host_of n m) (word_address own) ≡ page → Stands n m (word_on own page)
+    by_page (Err f) e = word_failed own (host_of n m) f e
+    by_page (Ok page) e = found_there page.frame page.protected e
+
 -- the host page behind an address has a short frame number, and a word on it lies in the storage
 module _ (g : Guest) (d : ℕ) (s : List ℕ) where
-  short_page : (a : ℕ) {f : ℕ} {p : Bool} → backing g (host d s []) a ≡ Page f p → f < 524288
+  short_page : (a : ℕ) {f : ℕ} {p : Bool} → backing g (host d s []) a ≡ at_frame f p → f < 524288
   unfolding backing host_page
   short_page a =
       tested (ltb a (extent_bytes g))
@@ -133,10 +137,14 @@ module _ (g : Guest) (d : ℕ) (s : List ℕ) where
   short_backing a = by_walk (backing g (host d s []) a) refl
     where
       by_walk : (w : Walk) → backing g (host d s []) a ≡ w → Short w
-      by_walk (Failed f) e = tt
-      by_walk (Page frame protected) e = short_page a e
+      by_walk (Err f) e = tt
+      by_walk (Ok page) e = short_page a e
+
+  found-in_storage : (frame : ℕ) (protected : Bool) → backing g (host d s []) (word_address g) ≡ at_frame frame protected
+      → InStorage s (word_on g (at_frame frame protected))
+  found-in_storage frame true e = tt
+  found-in_storage frame false e = let fits = backing-in_storage g (host d s []) (word_address g) e in omega arith
 
   pub word-in_storage : (w : Walk) → backing g (host d s []) (word_address g) ≡ w → InStorage s (word_on g w)
-  word-in_storage (Failed f) e = tt
-  word-in_storage (Page frame true) e = tt
-  word-in_storage (Page frame false) e = let fits = backing-in_storage g (host d s []) (word_address g) e in omega arith
+  word-in_storage (Err f) e = tt
+  word-in_storage (Ok page) e = found-in_storage page.frame page.protected e

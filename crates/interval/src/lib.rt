@@ -13,32 +13,26 @@ ghost use Rattle.machine.specs.declared.Numbers.{Numbers};
 ghost use Rattle.storage.specs.Entered.{Entered};
 ghost use Rattle.interval.specs.Standing.{word_on, Short, Stands, InStorage};
 
-use machine::{Failure, Guest, Walk};
+use machine::{Failure, Guest, Page, Walk};
 
 // Where the word stands, a host absolute address, or why it cannot be stored into.
-#[derive(Clone, Copy)]
-pub enum Word {
-    At(u32),
-    Shut(Failure),
-}
+pub type Word = Result<u32, Failure>;
 
 const PERIOD: u64 = 40960000;
 
-// By what the word falls, taken off with wrap: 2^32 - 256.
-const FALL: u32 = 4294967040;
+// By what the word falls.
+const FALL: u32 = 256;
 
 const PLACE: u32 = 80;
 
 const PROTECTION: u32 = 4;
 
 // The timer is active: a System/370 guest, and mode bit 7 is zero.
+#[tactic(auto, unfolding(machine::specs::Interval::active))]
 pub fn active(guest: Guest) -> bool
     ensures { result ≡ active guest }
 {
-    if guest.mode / 4 % 4 == 1 {
-        return guest.mode % 2 != 1;
-    }
-    false
+    guest.mode / 4 % 4 == 1 && guest.mode % 2 != 1
 }
 
 // T is one.
@@ -56,6 +50,7 @@ pub fn without_t(request: u8) -> u8
 }
 
 // A period is full after a unit of this time: the word falls.
+#[tactic(auto, unfolding(machine::specs::Interval::falls))]
 pub fn falls(residue: u32, time: u32) -> bool
     ensures { result ≡ falls residue time }
 {
@@ -63,45 +58,45 @@ pub fn falls(residue: u32, time: u32) -> bool
 }
 
 // The residue after a unit of this time.
+#[tactic(auto, unfolding(machine::specs::Interval::residue_after, machine::specs::Interval::falls))]
 pub fn residue_after(residue: u32, time: u32) -> u32
     requires { (residue < period) × (time ≤ most_time) }
     ensures { (result ≡ residue_after residue time) × (result < period) }
 {
     let risen = residue as u64 + 3 * time as u64;
     if PERIOD <= risen {
-        return (risen - PERIOD) as u32;
+        (risen - PERIOD) as u32
+    } else {
+        risen as u32
     }
-    risen as u32
 }
 
 // The word after a fall.
+#[tactic(auto, unfolding(machine::specs::Interval::word_after))]
 fn word_after(word: u32) -> u32
     ensures { result ≡ word_after word }
 {
-    std::num::wrapping_add_u32(word, FALL)
+    word.wrapping_sub(FALL)
 }
 
 // The fall takes the signed word from nonnegative to negative.
+#[tactic(auto, unfolding(machine::specs::Interval::turns_negative))]
 fn turns_negative(word: u32) -> bool
     ensures { result ≡ turns_negative word }
 {
-    if word / 2147483648 % 2 == 1 {
-        return false;
-    }
-    word_after(word) / 2147483648 % 2 == 1
+    word / 2147483648 % 2 != 1 && word_after(word) / 2147483648 % 2 == 1
 }
 
 // The request byte after a fall of this word: T is set where the word turns negative.
+#[tactic(auto, unfolding(machine::specs::Interval::request_after))]
 pub fn request_after(request: u8, word: u32) -> u8
     ensures { result ≡ request_after request word }
 {
-    if turns_negative(word) {
-        if request / 128 % 2 == 1 {
-            return request;
-        }
-        return request + 128;
+    if turns_negative(word) && !pending(request) {
+        request + 128
+    } else {
+        request
     }
-    request
 }
 
 // Where the word stands, by the host page behind it: its four bytes stand on the prefix page. Host page protection is not skipped.
@@ -109,19 +104,15 @@ fn word_in(guest: Guest, page: Walk) -> Word
     requires { Entered guest × Short page }
     ensures { result ≡ word_on guest page }
 {
-    match page {
-        Walk::Failed(f) => Word::Shut(f),
-        Walk::Page { frame, protected } => {
-            if protected {
-                return Word::Shut(Failure {
-                    host: true,
-                    code: PROTECTION,
-                    address: guest.origin as u32 * 65536 + (guest.prefix * 4096 + PLACE),
-                });
-            }
-            Word::At(frame * 4096 + PLACE)
-        }
+    let Page { frame, protected } = page?;
+    if protected {
+        return Err(Failure {
+            host: true,
+            code: PROTECTION,
+            address: guest.origin as u32 * 65536 + (guest.prefix * 4096 + PLACE),
+        });
     }
+    Ok(frame * 4096 + PLACE)
 }
 
 // Where the word stands as a unit begins.
@@ -141,7 +132,11 @@ pub fn fall(storage: &mut [u8], at: u32) -> u32
     ensures value { result ≡ word_at storage.old at }
     ensures storage_after { storage.new ≡ sets storage.old at (word_bytes (word_after (word_at storage.old at))) }
 {
-    let word = words::word_at(storage, at as usize);
-    writer::put_word_operand(storage, word_after(word), at, 4, 0);
+    let from = at as usize;
+    let word = words::word_at(storage, from);
+    writer::put_part(
+        &mut storage[from..from + 4],
+        &word_after(word).to_be_bytes(),
+    );
     word
 }

@@ -1,40 +1,68 @@
 // The turn of a streak in which a block or the prefix page's place is kept.
 #![tactic(auto)]
 
-ghost use Rattle.std.specs.Prelude.{◌≤◌, ◌<◌, ◌≡◌, length};
+ghost use Rattle.std.specs.Prelude.{◌≤◌, ◌<◌, ◌≡◌, List, ℕ, length};
 ghost use Rattle.machine.specs.Refusals.{frames_of};
 ghost use Rattle.storage.specs.Entered.{Entered};
+ghost use Rattle.turns.specs.Turning.{Low};
 ghost use Rattle.keeping.specs.Keeping.{Keeping};
 
-use machine::{Guest, Psw, Registers};
-use turns::Stand;
+use machine::{Guest, Registers};
+use turns::{Next, Stand};
 
-// Keeps the place of the prefix page, or the block that is wanted. Behind it comes what wanted it, or what the denial comes to.
-pub fn keep_turn(
+// Keeps the place of the prefix page. Behind it comes the unit that wants it.
+pub fn keep_area(
     storage: &[u8],
     keys: &[u8],
-    guard: &mut [u8],
+    guard: &mut [u8; 64],
+    kept: &mut [u32; 32],
+    designation: u32,
+    guest: Guest,
+    s: Stand,
+) -> Stand
+    requires { Entered guest × (frames_of storage.now ≤ length keys.now) × (s.tries ≤ 7) }
+    ensures { (words : List ℕ) → Keeping designation guest s words storage.now keys.now guard.old kept.old result guard.new kept.new }
+{
+    let found = area::keep_area(storage, keys, guard, kept, designation, guest);
+    let next = if found >= area::NO_AREA {
+        Next::Other
+    } else {
+        Next::Single
+    };
+    turns::again(s, next, found)
+}
+
+// The turn after a block was wanted, and is kept or denied.
+fn next_of(good: bool, single: bool, store: bool, a: u32) -> Next
+    requires { a < 2147483648 }
+    ensures { Low result }
+{
+    if !good {
+        Next::Denied { store, a }
+    } else if single {
+        Next::Single
+    } else {
+        Next::Lap
+    }
+}
+
+// Keeps the block that is wanted. Behind it comes what wants it, or what the denial comes to.
+pub fn keep_block(
+    storage: &[u8],
+    keys: &[u8],
+    guard: &mut [u8; 64],
     kept: &mut [u32; 32],
     control: &[u32; 16],
     designation: u32,
     guest: Guest,
     s: Stand,
+    single: bool,
+    store: bool,
+    a: u32,
 ) -> Stand
-    requires { Entered guest × (frames_of storage.now ≤ length keys.now) × (length guard.old ≡ 64) × (s.a < 2147483648) × (s.tries ≤ 7) }
+    requires { Entered guest × (frames_of storage.now ≤ length keys.now) × (a < 2147483648) × (s.tries ≤ 7) }
     ensures { Keeping designation guest s control.now storage.now keys.now guard.old kept.old result guard.new kept.new }
 {
-    if s.want == special::AREA {
-        let place = area::keep_area(storage, keys, guard, kept, designation, guest);
-        if place >= area::NO_AREA {
-            return turns::again(s, lap::OTHER, 0, place);
-        }
-        return turns::again(s, lap::SPECIAL, 0, place);
-    }
-    let psw = Psw {
-        left: s.left,
-        right: s.right,
-        system370: s.system370,
-    };
     let registers = Registers { words: *control };
     let good = pages::keep(
         storage,
@@ -43,17 +71,12 @@ pub fn keep_turn(
         kept,
         designation,
         guest,
-        psw,
+        s.psw,
         registers,
-        s.want % 2 == 1,
-        s.a,
+        store,
+        a,
     );
     let place = area::spared(guard, s.area);
-    if !good {
-        return turns::again(s, turns::DENIED + s.want % 2, s.a, place);
-    }
-    if s.want > special::TESTS {
-        return turns::again(s, lap::SPECIAL, 0, place);
-    }
-    turns::again(s, lap::DONE, 0, place)
+    let next = next_of(good, single, store, a);
+    turns::again(s, next, place)
 }

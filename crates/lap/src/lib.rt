@@ -2,7 +2,7 @@
 // instruction is known by its place in storage, the condition code by the last sum.
 #![tactic(auto)]
 
-ghost use Rattle.std.specs.Prelude.{◌≡◌, ℕ, ◌+◌, ◌<◌, ◌≤◌, true, List, length, slice_index, slice_set};
+ghost use Rattle.std.specs.Prelude.{◌≡◌, ℕ, ◌+◌, ◌<◌, ◌≤◌, true, List, Some, length, slice_index, slice_set};
 ghost use Rattle.machine.specs.Words.{half_at};
 ghost use Rattle.machine.specs.declared.Cpu.{Cpu};
 ghost use Rattle.machine.specs.Psw.{mode31};
@@ -10,7 +10,7 @@ ghost use Rattle.machine.specs.Record.{Sixteen};
 ghost use Rattle.sums.specs.Summing.{code_in};
 ghost use Rattle.blocks.specs.Keeping.{Free, Inside};
 ghost use Rattle.guard.specs.Guarding.{Alike};
-ghost use Rattle.lap.specs.Stepping.{nowhere, flags, part_of, total_of, cut, entry_of, step_to, step_wants, sum_step, branch_step, load_step, store_step, stored_step, Stepped, Lands};
+ghost use Rattle.lap.specs.Stepping.{nowhere, part_of, total_of, cut, entry_of, step_to, step_wants, sum_step, branch_step, load_step, store_step, stored_step, Stepped, Lands};
 ghost use Rattle.lap.specs.Lapping.{Laps};
 
 use machine::Psw;
@@ -27,11 +27,9 @@ pub struct Step {
     pub value: u32,
 }
 
-// Where a text stands: the first address of its block, the place of the block's first byte, and its own place; good if the block is
-// kept and the address even.
+// Where a text stands: the first address of its block, the place of the block's first byte, and its own place.
 #[derive(Clone, Copy)]
 pub struct Landing {
-    pub good: bool,
     pub page: usize,
     pub base: usize,
     pub at: usize,
@@ -72,11 +70,9 @@ const LAST: usize = 2044;
 // No sum of an address's parts.
 const NOWHERE: usize = 1099511627776;
 
-fn wide(x: u8) -> usize
-    ensures { (result ≡ x) × (result < 256) }
-{
-    x as usize
-}
+// What a base or index register's content is multiplied by: register 0 stands for zero. So there is no branch, which a processor would
+// have to guess.
+const ONES: [u32; 16] = [0, 1, 1, 1, 1, 1, 1, 1, 1, 1, 1, 1, 1, 1, 1, 1];
 
 // Not done: something is wanted, or it jumped.
 fn wanting(want: u32, a: usize, at: usize, sum: u64) -> Step
@@ -106,30 +102,21 @@ fn stepped(at: usize, sum: u64, register: usize, value: u32) -> Step
     }
 }
 
-// The content of a general register.
-fn content(words: &[u32; 16], r: usize) -> u32
+// The content of a base or index register.
+pub fn part(words: &[u32; 16], r: usize) -> usize
     requires { r < 16 }
-    ensures { result ≡ slice_index words.now r }
-{
-    words[r]
-}
-
-// The content of a base or index register: register 0 stands for zero. There is no branch here, which a processor would have to
-// guess.
-pub fn part(words: &[u32; 16], ones: &[u32; 16], r: usize) -> usize
-    requires { (r < 16) × (ones.now ≡ flags) }
     ensures { (result ≡ part_of words.now r) × (result < 4294967296) }
 {
-    (content(words, r) * ones[r]) as usize
+    (words[r] * ONES[r]) as usize
 }
 
 // The sum of the parts D2, X2 and B2 of an address.
-fn total(storage: &[u8], words: &[u32; 16], ones: &[u32; 16], at: usize, x: usize) -> usize
-    requires { (at + 4 ≤ length storage.now) × (x < 16) × (ones.now ≡ flags) }
+fn total(storage: &[u8], words: &[u32; 16], at: usize, x: usize) -> usize
+    requires { (at + 4 ≤ length storage.now) × (x < 16) }
     ensures { (result ≡ total_of words.now x (half_at storage.now (at + 2))) × (result < nowhere) }
 {
-    let second = wide(storage[at + 2]) * 256 + wide(storage[at + 3]);
-    part(words, ones, x) + part(words, ones, second / 4096) + second % 4096
+    let second = storage[at + 2] as usize * 256 + storage[at + 3] as usize;
+    part(words, x) + part(words, second / 4096) + second % 4096
 }
 
 // A logical address, cut to the addressing mode.
@@ -137,9 +124,10 @@ pub fn wrapped(long: bool, total: usize) -> usize
     ensures { (result ≡ cut long total) × (result < 2147483648) }
 {
     if long {
-        return total % 2147483648;
+        total % 2147483648
+    } else {
+        total % 16777216
     }
-    total % 16777216
 }
 
 // ADD and SUBTRACT: an overflow that is a program exception is for unit to do.
@@ -147,10 +135,8 @@ fn sum_step(at: usize, old: u64, sum: u64, register: usize, trap: bool) -> Step
     requires { at < 9223372036854775808 }
     ensures { result ≡ sum_step at old sum register trap }
 {
-    if trap {
-        if sums::is_outside(sum) {
-            return wanting(OTHER, 0, at, old);
-        }
+    if trap && sums::is_outside(sum) {
+        return wanting(OTHER, 0, at, old);
     }
     stepped(at + 2, sum, register, sums::word_of(sum))
 }
@@ -178,7 +164,7 @@ fn load_step(
     ensures { (result ≡ load_step storage.now kept.now at sum register a) × (slice_index kept.now (entry_of a) < 4294967296) }
 {
     let i = a / 2048 % 8;
-    let d = std::num::wrapping_sub_usize(a, places::table_word(kept, i) as usize);
+    let d = a.wrapping_sub(kept[i] as usize);
     if d > 2044 {
         return wanting(FETCH, a, at, sum);
     }
@@ -186,7 +172,7 @@ fn load_step(
         at + 4,
         sum,
         register,
-        words::word_at(storage, places::table_word(kept, 8 + i) as usize + d),
+        words::word_at(storage, kept[8 + i] as usize + d),
     )
 }
 
@@ -204,16 +190,15 @@ fn store_step(
         × (slice_index kept.now (16 + entry_of a) < 4294967296) }
 {
     let i = a / 2048 % 8;
-    let d = std::num::wrapping_sub_usize(a, places::table_word(kept, 16 + i) as usize);
+    let d = a.wrapping_sub(kept[16 + i] as usize);
     if d > 2044 {
         return wanting(STORE, a, at, sum);
     }
     if a < 512 {
         return wanting(OTHER, a, at, sum);
     }
-    let from = places::table_word(kept, 24 + i) as usize + d;
-    let end = from + 4;
-    writer::put_word_part(&mut storage[from..end], value);
+    let from = kept[24 + i] as usize + d;
+    writer::put_part(&mut storage[from..from + 4], &value.to_be_bytes());
     stepped(at + 4, sum, NO_REGISTER, 0)
 }
 
@@ -221,7 +206,6 @@ fn store_step(
 fn unit(
     storage: &mut [u8],
     words: &[u32; 16],
-    ones: &[u32; 16],
     kept: &[u32; 32],
     at: usize,
     sum: u64,
@@ -230,15 +214,15 @@ fn unit(
     top: usize,
     target: usize,
 ) -> Step
-    requires { Inside storage.old kept.now × (ones.now ≡ flags) × (at + 4 ≤ length storage.old) × (at < 4294967296) × Sixteen words.now }
+    requires { Inside storage.old kept.now × (at + 4 ≤ length storage.old) × (at < 4294967296) × Sixteen words.now }
     ensures stepped { result.want < 2 → Stepped storage.old kept.now at sum words.now trap long top target result storage.new }
     ensures storage_unchanged { 2 ≤ result.want → (storage.new ≡ storage.old) × (result.a < 2147483648) }
     ensures by_index { (guard : List ℕ) → Free guard kept.now → Alike guard storage.old storage.new }
 {
     let op = storage[at];
-    let registers = storage[at + 1];
-    let r1 = wide(registers / 16);
-    let r2 = wide(registers % 16);
+    let registers = storage[at + 1] as usize;
+    let r1 = registers / 16;
+    let r2 = registers % 16;
     match op {
         0x18 => stepped(at + 2, sum, r1, words[r2]),
         0x1a => sum_step(at, sum, sums::add(words[r1], words[r2]), r1, trap),
@@ -256,11 +240,11 @@ fn unit(
             at + 4,
             sum,
             r1,
-            wrapped(long, total(storage, words, ones, at, r2)) as u32,
+            wrapped(long, total(storage, words, at, r2)) as u32,
         ),
         0x47 => {
             if sums::selects(r1, sum) {
-                return branch_step(at, sum, total(storage, words, ones, at, r2), top, target);
+                return branch_step(at, sum, total(storage, words, at, r2), top, target);
             }
             stepped(at + 4, sum, NO_REGISTER, 0)
         }
@@ -270,7 +254,7 @@ fn unit(
             at,
             sum,
             r1,
-            wrapped(long, total(storage, words, ones, at, r2)),
+            wrapped(long, total(storage, words, at, r2)),
         ),
         0x50 => store_step(
             storage,
@@ -278,7 +262,7 @@ fn unit(
             at,
             sum,
             words[r1],
-            wrapped(long, total(storage, words, ones, at, r2)),
+            wrapped(long, total(storage, words, at, r2)),
         ),
         _ => wanting(SPECIAL, 0, at, sum),
     }
@@ -294,29 +278,23 @@ fn set_register(words: &mut [u32; 16], register: usize, value: u32)
     }
 }
 
-// Where the text at a logical address stands.
-pub fn land(kept: &[u32; 32], a: usize) -> Landing
+// Where the text at a logical address stands: none if its block is not kept, or the address is odd.
+pub fn land(kept: &[u32; 32], a: usize) -> Option<Landing>
     requires { a < 2147483648 }
-    ensures { result.good ≡ true → Lands kept.now a result }
+    ensures { (l : Landing) → result ≡ Some l → Lands kept.now a l }
 {
     let i = a / 2048 % 8;
-    let page = places::table_word(kept, i) as usize;
-    let base = places::table_word(kept, 8 + i) as usize;
-    let d = std::num::wrapping_sub_usize(a, page);
-    if d >= 2048 {
-        return Landing {
-            good: false,
-            page,
-            base,
-            at: base,
-        };
+    let page = kept[i] as usize;
+    let base = kept[8 + i] as usize;
+    let d = a.wrapping_sub(page);
+    if d >= 2048 || d % 2 != 0 {
+        return None;
     }
-    Landing {
-        good: d % 2 == 0,
+    Some(Landing {
         page,
         base,
         at: base + d,
-    }
+    })
 }
 
 // How a lap ends.
@@ -339,31 +317,28 @@ fn elsewhere(a: usize, sum: u64, units: u32) -> Lap
     ensures { (result.units ≡ units) × (result.address ≡ a) × (result.code ≡ code_in sum) × (result.code < 4) × (result.a < 2147483648) }
 {
     if a % 2 == 1 {
-        return ended(OTHER, 0, a, sum, units);
+        ended(OTHER, 0, a, sum, units)
+    } else {
+        ended(FETCH, a, a, sum, units)
     }
-    ended(FETCH, a, a, sum, units)
 }
 
 // The addressing mode is of 31 bits.
 pub fn is_long(psw: Psw) -> bool
     ensures { (c : Cpu) → c.psw ≡ psw → result ≡ mode31 c }
 {
-    if psw.system370 {
-        return false;
-    }
-    psw.right / 2147483648 % 2 == 1
+    !psw.system370 && psw.right / 2147483648 % 2 == 1
 }
 
 // At most so many units.
 pub fn units(
     storage: &mut [u8],
     words: &mut [u32; 16],
-    ones: &[u32; 16],
     kept: &[u32; 32],
     psw: Psw,
     most: u32,
 ) -> Lap
-    requires { Inside storage.old kept.now × (ones.now ≡ flags) × Sixteen words.old }
+    requires { Inside storage.old kept.now × Sixteen words.old }
     ensures { (result.units ≤ most) × (result.code < 4) × (result.address < 2147483648) × (result.a < 2147483648) × Sixteen words.new
         × Laps kept.now psw words.old storage.old result words.new storage.new }
 {
@@ -371,10 +346,9 @@ pub fn units(
     let trap = cpu::overflow_enabled(psw);
     let address = wrapped(long, cpu::instruction_address(psw) as usize);
     let mut sum = sums::sum_for(cpu::condition_code(psw));
-    let first = land(kept, address);
-    if !first.good {
+    let Some(first) = land(kept, address) else {
         return elsewhere(address, sum, 0);
-    }
+    };
     let mut page = first.page;
     let mut base = first.base;
     let mut last = base + LAST;
@@ -390,7 +364,7 @@ pub fn units(
             }
             return ended(OTHER, 0, a, sum, most - n);
         }
-        let s = unit(storage, words, ones, kept, at, sum, trap, long, top, target);
+        let s = unit(storage, words, kept, at, sum, trap, long, top, target);
         if s.want == DONE {
             set_register(words, s.register, s.value);
             at = s.at;
@@ -400,10 +374,9 @@ pub fn units(
                 return ended(s.want, s.a, page + (at - base), sum, most - n);
             }
             let a = wrapped(long, s.a);
-            let next = land(kept, a);
-            if !next.good {
+            let Some(next) = land(kept, a) else {
                 return elsewhere(a, s.sum, most - n + 1);
-            }
+            };
             page = next.page;
             base = next.base;
             last = base + LAST;

@@ -1,5 +1,6 @@
 -- The code of a failure is a byte: of every access, whatever guest, host and CPU.
 -- Assumes nothing.
+use Rattle.std.specs.Prelude.{Err, Ok}
 use Prim.Native.Nat.{ℕ, ◌+◌, ◌<◌}
 use native.Mathlib.Omega.{arith}
 use mathlib.Core.Bool.{Bool, not, ◌&&◌}
@@ -9,15 +10,11 @@ use lib.ListN.{length}
 use Rattle.machine.specs.declared.Cpu.{Cpu}
 use Rattle.machine.specs.declared.Failure.{Failure}
 use Rattle.machine.specs.declared.Guest.{Guest}
-use Rattle.machine.specs.declared.TableEntry.{TableEntry}
-use Rattle.machine.specs.declared.TableEntry.TheVariants.{Word, Unread}
-use Rattle.machine.specs.declared.Walk.{Walk}
-use Rattle.machine.specs.declared.Walk.TheVariants.{Page, Failed}
 use Rattle.machine.specs.Refusals.{frames_of}
 use Rattle.machine.specs.Entry.{extent_bytes}
 use Rattle.machine.specs.Psw.{dat_on}
 use Rattle.machine.specs.Failures.{segment_translation, page_translation, translation_specification, walk_exception}
-use Rattle.machine.specs.Walk.{segment_index, past_segment_table, segment_invalid, segment_malformed, past_page_table, page_invalid, page_malformed, walk_page, walk_segment, walk}
+use Rattle.machine.specs.Walk.{segment_index, past_segment_table, segment_invalid, segment_malformed, past_page_table, page_invalid, page_malformed, walk_page, walk_segment, walk, TableEntry, Walk}
 use Rattle.machine.specs.Host.{Host, Cell, absent, present, host_entry, in_storage, host_page, backing, cell_of, view}
 use Rattle.machine.specs.Addresses.{prefixed, entry_of, guest_entry, format_good, real_page, low_protected, Access, reached, denied, settle, real_access, in_page, access}
 use Rattle.machine.proofs.Tests.{on_either_arm}
@@ -26,12 +23,12 @@ abbrev pub Coded : Failure → Type 0
 Coded f = f.code < 256
 
 abbrev CodedEntry : TableEntry → Type 0
-CodedEntry (Word x) = Unit {0}
-CodedEntry (Unread f) = Coded f
+CodedEntry (Ok x) = Unit {0}
+CodedEntry (Err f) = Coded f
 
 abbrev pub CodedWalk : Walk → Type 0
-CodedWalk (Page frame protected) = Unit {0}
-CodedWalk (Failed f) = Coded f
+CodedWalk (Ok page) = Unit {0}
+CodedWalk (Err f) = Coded f
 
 abbrev pub CodedCell : Cell → Type 0
 CodedCell (present byte key protected) = Unit {0}
@@ -46,14 +43,14 @@ CodedAccess (denied f) = Coded f
 module _ (read : ℕ → TableEntry) (fail : ℕ → Failure) (reads : (at : ℕ) → CodedEntry (read at)) (fails : (code : ℕ) → code < 256 → Coded (fail code)) where
   coded_page : (e : TableEntry) → CodedEntry e → CodedWalk (walk_page fail e)
   unfolding walk_page
-  coded_page (Unread f) small = small
-  coded_page (Word e) small =
+  coded_page (Err f) small = small
+  coded_page (Ok e) small =
       on_either_arm CodedWalk (page_invalid e) (fails page_translation (omega arith)) (on_either_arm CodedWalk (page_malformed e) (fails translation_specification (omega arith)) tt)
 
   coded_segment : (index : ℕ) (e : TableEntry) → CodedEntry e → CodedWalk (walk_segment read fail index e)
   unfolding walk_segment
-  coded_segment index (Unread f) small = small
-  coded_segment index (Word e) small =
+  coded_segment index (Err f) small = small
+  coded_segment index (Ok e) small =
       on_either_arm CodedWalk (segment_invalid e) (fails segment_translation (omega arith))
       (on_either_arm CodedWalk (segment_malformed e) (fails translation_specification (omega arith))
       (on_either_arm CodedWalk (past_page_table e index) (fails page_translation (omega arith)) (coded_page _ (reads _))))
@@ -70,8 +67,8 @@ coded_host-entry s v at = on_either_arm CodedEntry (leb (at + 4) (length s)) tt 
 
 coded_in_storage : (s : List ℕ) (v : ℕ) (w : Walk) → CodedWalk w → CodedWalk (in_storage s v w)
 unfolding in_storage
-coded_in_storage s v (Failed f) small = small
-coded_in_storage s v (Page frame protected) small = on_either_arm CodedWalk (ltb frame (frames_of s)) tt (omega arith)
+coded_in_storage s v (Err f) small = small
+coded_in_storage s v (Ok page) small = on_either_arm CodedWalk (ltb page.frame (frames_of s)) tt (omega arith)
 
 pub coded_backing : (g : Guest) (h : Host) (a : ℕ) → CodedWalk (backing g h a)
 unfolding backing host_page
@@ -80,8 +77,8 @@ coded_backing g h a =
 
 coded_cell : (h : Host) (a : ℕ) (w : Walk) → CodedWalk w → CodedCell (cell_of h a w)
 unfolding cell_of
-coded_cell h a (Failed f) small = small
-coded_cell h a (Page frame protected) small = tt
+coded_cell h a (Err f) small = small
+coded_cell h a (Ok page) small = tt
 
 pub coded_view : (g : Guest) (h : Host) (a : ℕ) → CodedCell (view g h a)
 unfolding view
@@ -117,8 +114,8 @@ module _ (g : Guest) (v : ℕ → Cell) (cells : (a : ℕ) → CodedCell (v a)) 
 
     coded_in_page : (store : Bool) (a : ℕ) (w : Walk) → CodedWalk w → CodedAccess (in_page g v c store a w)
     unfolding in_page
-    coded_in_page store a (Failed f) small = small
-    coded_in_page store a (Page frame protected) small = coded_settle store _ _ _ (cells _)
+    coded_in_page store a (Err f) small = small
+    coded_in_page store a (Ok page) small = coded_settle store _ _ _ (cells _)
 
     pub coded_access : (store : Bool) (a : ℕ) → CodedAccess (access g v c store a)
     unfolding access

@@ -1,5 +1,6 @@
 -- THE INTERVAL TIMER: the proof of `IntervalTimer`. The word is read and stored through the host pages with which the run starts.
 -- Assumes nothing.
+use Rattle.std.specs.Prelude.{Err, Ok}
 use Prim.Native.Nat.{ℕ, zero, suc, ◌+◌, ◌-◌, ◌*◌, ◌/◌, ◌%◌, ◌^◌, ◌≤◌, ◌<◌}
 use native.Mathlib.Omega.{arith}
 use mathlib.Core.Path.{◌≡◌, refl, sym, ap, ◌∙◌, subst}
@@ -10,7 +11,6 @@ use lib.Dec.{eqb, ltb}
 use lib.ListN.{length, set, length-set}
 use lib.Seq.{get_or-set_same, get_or-set_other}
 use borrow.Author.Tests.{ltb-true, leb-true, eq-eqb, ne_eqb, eqb-true, eqb-false}
-use Rattle.machine.specs.declared.Answer.TheVariants.{Ended}
 use Rattle.machine.specs.declared.Cpu.{Cpu}
 use Rattle.machine.specs.declared.End.{End}
 use Rattle.machine.specs.declared.End.TheVariants.{Intercepted, HostFault, BudgetUsed}
@@ -18,18 +18,15 @@ use Rattle.machine.specs.declared.Failure.{Failure}
 use Rattle.machine.specs.declared.Guest.{Guest}
 use Rattle.machine.specs.declared.Numbers.{Numbers}
 use Rattle.machine.specs.declared.Reason.{Reason}
-use Rattle.machine.specs.declared.Verdict.TheVariants.{Accepted}
-use Rattle.machine.specs.declared.Walk.{Walk}
-use Rattle.machine.specs.declared.Walk.TheVariants.{Page, Failed}
 use Rattle.machine.specs.Words.{byte_at, word_at, word_bytes}
 use Rattle.machine.specs.Record.{long_length, version_for, system370_mode, guest_of, request_of, residue_of, with_interval}
 use Rattle.machine.specs.Sizes.{frame_bytes, page_bytes}
 use Rattle.machine.specs.Interval.{word_place, active, period, fall, risen, falls, residue_after, word_after, turns_negative, pending, with_t, without_t, request_after}
-use Rattle.machine.specs.Refusals.{most_time, frames_of, run_verdict}
+use Rattle.machine.specs.Refusals.{most_time, frames_of, run_verdict, no_refusal}
 use Rattle.machine.specs.Entry.{extent_bytes, entry_good}
 use Rattle.machine.specs.Time.{charged}
 use Rattle.machine.specs.Failures.{addressing, host_fault, exception_of}
-use Rattle.machine.specs.Walk.{walk}
+use Rattle.machine.specs.Walk.{walk, Walk, at_frame}
 use Rattle.machine.specs.Host.{Host, host, host_virtual, host_entry, in_storage, host_page, backing, Cell, absent, present, in_frame, cell_of, view, Located, places, store_byte, stored, byte_in, bytes_behind}
 use Rattle.machine.specs.Addresses.{prefixed, byte_of, Access, reached, denied, settle, real_access, Accesses, all, stopped, and_then, accesses, up_from}
 use Rattle.machine.specs.Outcomes.{Effects, completed}
@@ -45,18 +42,20 @@ use Rattle.machine.proofs.Words.{word_of_word_bytes}
 use Rattle.machine.proofs.Verdicts.{accepted_version, accepted_time, accepted-residue}
 use Rattle.machine.proofs.Entry.{entry_version}
 use Rattle.machine.proofs.Ticks.{Update, still, rises, fell, InRange, residue-small, request_of-with_interval, residue_of-with_interval, residue_of-with_results, request_of-with_results}
-use Rattle.machine.proofs.Runs.{stored-length, step_cases, left_by_lem, run_of_cases}
+use Rattle.machine.proofs.Runs.{stored-length, step_cases, left_by_lem, same_end, same_units, run_of_cases}
+use Rattle.machine.proofs.Backing.{same_frame}
 use Rattle.machine.proofs.Timer.{exit_residue, exit_request, exit_cleared}
 use Rattle.machine.proofs.Kept.{step_in_range}
 use Rattle.machine.proofs.Backed.{word_is_backed}
 use Rattle.machine.proofs.Isolation.{start_twins}
 use Rattle.machine.proofs.Twins.{Twins, same_run, pages, pages₁}
+use Rattle.machine.specs.Answers.{run_answer}
 
 -- the byte of a cell is the one behind its page
 byte_of_cell : (h : Host) (a : ℕ) (w : Walk) → byte_of (cell_of h a w) ≡ byte_in w h.storage a
 unfolding byte_of cell_of byte_in
-byte_of_cell h a (Failed f) = refl
-byte_of_cell h a (Page frame protected) = refl
+byte_of_cell h a (Err f) = refl
+byte_of_cell h a (Ok page) = refl
 
 -- an access that reaches this place, or none
 data Lands (a : ℕ) : Access → Type 0 where
@@ -151,7 +150,7 @@ unfolding prefixed
 offset_kept g i low = rw (eq-eqb (i / page_bytes) 0 (omega arith)) (omega arith)
 
 -- the word stored through host pages whose frames lie in the storage, and read back
-module _ (behind : ℕ → Walk) (g : Guest) (s' : List ℕ) (bounded : (a f : ℕ) (p : Bool) → behind a ≡ Page f p → f < frames_of s') where
+module _ (behind : ℕ → Walk) (g : Guest) (s' : List ℕ) (bounded : (a f : ℕ) (p : Bool) → behind a ≡ at_frame f p → f < frames_of s') where
   in_storage_lem : (a : ℕ) (p : HasPage behind a) → in_frame p.frame a < length s'
   in_storage_lem a p = omega (arith, bounded a p.frame p.protected p.page)
 
@@ -212,20 +211,20 @@ module _ (behind : ℕ → Walk) (g : Guest) (s' : List ℕ) (bounded : (a f : �
       by_pages (more p₀ (more p₁ (more p₂ (more p₃ none)))) = four_behind w p₀ p₁ p₂ p₃
 
 -- a host page lies in the storage
-page-in_storage : (g : Guest) (h : Host) (a f : ℕ) (p : Bool) → backing g h a ≡ Page f p → f < frames_of h.storage
+page-in_storage : (g : Guest) (h : Host) (a f : ℕ) (p : Bool) → backing g h a ≡ at_frame f p → f < frames_of h.storage
 unfolding backing host_page in_storage
 page-in_storage g h a f p = by_extent (ltb a (extent_bytes g))
   where
     by_frame : (frame : ℕ) (q : Bool) (b : Bool) → ltb frame (frames_of h.storage) ≡ b
-        → cond b (Page frame q) (Failed (host_fault (host_virtual g a) addressing)) ≡ Page f p → f < frames_of h.storage
-    by_frame frame q true low e = let same : frame ≡ f = cc in rw (← same) (ltb-true frame (frames_of h.storage) low)
+        → cond b (at_frame frame q) (Err (host_fault (host_virtual g a) addressing)) ≡ at_frame f p → f < frames_of h.storage
+    by_frame frame q true low e = let same : frame ≡ f = same_frame e in rw (← same) (ltb-true frame (frames_of h.storage) low)
     by_frame frame q false low e = let z : ◌≡◌ {A = ℕ} 0 1 = cc in absurd (omega arith)
 
-    by_walk : (w : Walk) → in_storage h.storage (host_virtual g a) w ≡ Page f p → f < frames_of h.storage
-    by_walk (Failed x) e = let z : ◌≡◌ {A = ℕ} 0 1 = cc in absurd (omega arith)
-    by_walk (Page frame q) e = by_frame frame q (ltb frame (frames_of h.storage)) refl e
+    by_walk : (w : Walk) → in_storage h.storage (host_virtual g a) w ≡ at_frame f p → f < frames_of h.storage
+    by_walk (Err x) e = let z : ◌≡◌ {A = ℕ} 0 1 = cc in absurd (omega arith)
+    by_walk (Ok page) e = by_frame page.frame page.protected (ltb page.frame (frames_of h.storage)) refl e
 
-    by_extent : (b : Bool) → cond b (host_page h (host_virtual g a)) (Failed (exception_of addressing)) ≡ Page f p → f < frames_of h.storage
+    by_extent : (b : Bool) → cond b (host_page h (host_virtual g a)) (Err (exception_of addressing)) ≡ at_frame f p → f < frames_of h.storage
     by_extent true e =
         by_walk (walk (host_entry h.storage (host_virtual g a)) (host_fault (host_virtual g a)) h.designation (host_virtual g a)) e
     by_extent false e = let z : ◌≡◌ {A = ℕ} 0 1 = cc in absurd (omega arith)
@@ -279,7 +278,7 @@ more_falls : (w fallen : ℕ)
     → ((w + 1 * (2 ^ 32 - fall)) % 2 ^ 32 + fallen * (2 ^ 32 - fall)) % 2 ^ 32 ≡ (w + suc fallen * (2 ^ 32 - fall)) % 2 ^ 32
 more_falls w fallen = omega arith
 
-module _ (n : Numbers) (r s k : List ℕ) (agree : Agree n r s k s k) (accepted : run_verdict n r s k ≡ Accepted)
+module _ (n : Numbers) (r s k : List ℕ) (agree : Agree n r s k s k) (accepted : run_verdict n r s k ≡ no_refusal)
     (good : entry_good (guest_of r) ≡ true) (on : active (guest_of r) ≡ true) (short : n.time ≤ most_time) where
   abbrev g : Guest
   g = guest_of r
@@ -332,11 +331,11 @@ module _ (n : Numbers) (r s k : List ℕ) (agree : Agree n r s k s k) (accepted 
     where
       by_pages : (w : Walk) → behind (prefixed g real) ≡ w → (x : Walk) → behind l.absolute ≡ x
           → byte_in w (store_byte x l s') (prefixed g real) ≡ byte_in w s' (prefixed g real)
-      by_pages (Failed f) e x h = refl
-      by_pages (Page f q) e (Failed y) h = refl
-      by_pages (Page f q) e (Page f' q') h =
-          get_or-set_other s' (in_frame f' l.absolute) (in_frame f (prefixed g real)) l.byte 0
-          (λ same. p real low high f' f q' q h e (sym same))
+      by_pages (Err f) e x h = refl
+      by_pages (Ok page) e (Err y) h = refl
+      by_pages (Ok page) e (Ok other) h =
+          get_or-set_other s' (in_frame other.frame l.absolute) (in_frame page.frame (prefixed g real)) l.byte 0
+          (λ same. p real low high other.frame page.frame other.protected page.protected h e (sym same))
 
   word_kept : (ls : List Located) → Each (BesideWord g behind) (places ls) → (s' : List ℕ) → word_of (stored behind ls s') ≡ word_of s'
   word_kept ls each s' =
@@ -353,7 +352,7 @@ module _ (n : Numbers) (r s k : List ℕ) (agree : Agree n r s k s k) (accepted 
       (places_going m p at e)
       (rw (behind_going m p) at (word_is_backed n m at e)) w)
     where
-      bounded : (a f : ℕ) (q : Bool) → behind a ≡ Page f q → f < frames_of s'
+      bounded : (a f : ℕ) (q : Bool) → behind a ≡ at_frame f q → f < frames_of s'
       bounded a f q page = omega (arith, page-in_storage g (host n.designation s k) a f q page)
 
   -- each step leads to a machine of the run
@@ -532,7 +531,7 @@ module _ (n : Numbers) (r s k : List ℕ) (agree : Agree n r s k s k) (accepted 
           refl left
 
 -- an active timer has the longer record
-active-long : (n : Numbers) (r storage keys : List ℕ) → run_verdict n r storage keys ≡ Accepted → entry_good (guest_of r) ≡ true
+active-long : (n : Numbers) (r storage keys : List ℕ) → run_verdict n r storage keys ≡ no_refusal → entry_good (guest_of r) ≡ true
     → active (guest_of r) ≡ true
     → length r ≡ long_length
 unfolding active guest_of
@@ -616,13 +615,12 @@ pub interval_timer : IntervalTimer
 unfolding result_of
 interval_timer n r storage keys end units ended t =
     run_of_cases n r storage keys
-    (λ (result : Result). result.answer ≡ Ended end units → (fallen : ℕ) × TimedAs n r storage keys units end result fallen)
+    (λ (result : Result). result.answer ≡ run_answer end units → (fallen : ℕ) × TimedAs n r storage keys units end result fallen)
     (λ number e a. let z : ◌≡◌ {A = ℕ} 0 1 = cc in absurd (omega arith))
     (λ e g a. absurd (false≢true (sym g ∙ t.good)))
     (λ e g a.
-    let same_end : (run n.budget n (machine_of n r storage keys)).end ≡ end = cc in
-    let same_units : (run n.budget n (machine_of n r storage keys)).units ≡ units = cc in
-    timed_as n r storage keys end units t (run n.budget n (machine_of n r storage keys)) same_end same_units
+    let as_many : (run n.budget n (machine_of n r storage keys)).units ≡ units = same_units a in
+    timed_as n r storage keys end units t (run n.budget n (machine_of n r storage keys)) (same_end a) as_many
     (run_timed n r storage keys (self_agree n r storage keys end units t) t.accepted t.good t.on
     (short_time n r storage keys end units t) n.budget
     (machine_of n r storage keys) (start_going n r storage keys end units t) (start_small n r storage keys end units t)
@@ -658,7 +656,7 @@ falls-after_the_stores n m next c e is goes_on on full =
         w : ℕ
         w = word_at (bytes_behind (behind_of n m) left at) 0
 
-        bounded : (a f : ℕ) (p : Bool) → behind_of n m a ≡ Page f p → f < frames_of left
+        bounded : (a f : ℕ) (p : Bool) → behind_of n m a ≡ at_frame f p → f < frames_of left
         bounded a f p page =
             omega (arith, page-in_storage g (host_of n m) a f p page, stored-length (behind_of n m) e'.stores m.storage)
 

@@ -1,4 +1,5 @@
 -- Runs of bytes: those that follow one another, and those within one page, as they are reached, read, stored and marked.
+use Rattle.std.specs.Prelude.{Err, Ok}
 use Prim.Native.Nat.{ℕ, zero, suc, ◌+◌, ◌/◌, ◌%◌, ◌^◌, ◌≤◌, ◌<◌}
 use native.Mathlib.Nat.{zero-add, add-zero, suc-add}
 use native.Mathlib.Numerals.{add-one}
@@ -11,13 +12,12 @@ use lib.Dec.{ltb}
 use lib.ListN.{length, get_or, set, take, drop}
 use lib.Seq.{sets, drop-cons, set-set, set_out, get_or-set_same}
 use Rattle.machine.specs.declared.Cpu.{Cpu}
-use Rattle.machine.specs.declared.Walk.{Walk}
-use Rattle.machine.specs.declared.Walk.TheVariants.{Page, Failed}
 use Rattle.machine.specs.Words.{bit, byte_at, half_at, word_at, double_at}
 use Rattle.machine.specs.Psw.{mode31, wrap}
 use Rattle.machine.specs.Host.{Located, places, in_frame, store_byte, stored, referenced, changed, mark_key, marked}
 use Rattle.machine.specs.Addresses.{Access, reached, denied, Accesses, all, stopped, and_then, accesses, span}
 use Rattle.machine.specs.Interruptions.{with_bytes, bytes_of}
+use Rattle.machine.specs.Walk.{Walk, at_frame}
 
 -- `n` bytes from guest absolute address `a` and host absolute address `q` on
 unfoldable pub bytes_from : List ℕ → ℕ → ℕ → ℕ → List Located
@@ -132,7 +132,7 @@ double_of_bytes_from s a q = simp (one_and_one, two_and_two)
 -- Runs of bytes behind which one host page lies, stored and marked.
 
 module _ (behind : ℕ → Walk) {f : ℕ} {p : Bool} (s : List ℕ) where
-  stored_bytes : (a q : ℕ) (bytes t : List ℕ) → a % 4096 + length bytes ≤ 4096 → ((i : ℕ) → a ≤ i → i < a + length bytes → behind i ≡ Page f p)
+  stored_bytes : (a q : ℕ) (bytes t : List ℕ) → a % 4096 + length bytes ≤ 4096 → ((i : ℕ) → a ≤ i → i < a + length bytes → behind i ≡ at_frame f p)
       → stored behind (with_bytes (bytes_from s a q (length bytes)) bytes) t ≡ sets t (in_frame f a) bytes
   unfolding bytes_from with_bytes stored store_byte
   stored_bytes a q [] t fits page = refl
@@ -142,31 +142,31 @@ module _ (behind : ℕ → Walk) {f : ℕ} {p : Bool} (s : List ℕ) where
       rw (stored, page a (omega arith) (omega arith), next)
       (stored_bytes (a + 1) (q + 1) (b' ∷ bytes) (set t (in_frame f a) b) (omega arith) (λ i low high. page i (omega arith) (omega arith)))
 
-  pub stored-in_page : (a q n : ℕ) (bytes t : List ℕ) → length bytes ≡ n → a % 4096 + n ≤ 4096 → ((i : ℕ) → a ≤ i → i < a + n → behind i ≡ Page f p)
+  pub stored-in_page : (a q n : ℕ) (bytes t : List ℕ) → length bytes ≡ n → a % 4096 + n ≤ 4096 → ((i : ℕ) → a ≤ i → i < a + n → behind i ≡ at_frame f p)
       → stored behind (with_bytes (bytes_from s a q n) bytes) t ≡ sets t (in_frame f a) bytes
   stored-in_page a q n bytes t e fits page = rw (← e) (stored_bytes a q bytes t (omega arith) (λ i low high. page i low (omega arith)))
 
 module _ (mark : ℕ → ℕ) (twice : (k : ℕ) → mark (mark k) ≡ mark k) where
   mark_twice : (w : Walk) (keys : List ℕ) → mark_key mark w (mark_key mark w keys) ≡ mark_key mark w keys
   unfolding mark_key
-  mark_twice (Failed x) keys = refl
-  mark_twice (Page f p) keys = go (ltb f (length keys)) refl
+  mark_twice (Err x) keys = refl
+  mark_twice (Ok page) keys = go (ltb page.frame (length keys)) refl
     where
-      go : (b : Bool) → ltb f (length keys) ≡ b → mark_key mark (Page f p) (mark_key mark (Page f p) keys) ≡ mark_key mark (Page f p) keys
-      go true e = rw (set-set, get_or-set_same keys f (mark (get_or keys f 0)) 0 (ltb-true _ _ e), twice)
-      go false e = let past : length keys ≤ f = ltb-false _ _ e in simp set_out
+      go : (b : Bool) → ltb page.frame (length keys) ≡ b → mark_key mark (Ok page) (mark_key mark (Ok page) keys) ≡ mark_key mark (Ok page) keys
+      go true e = rw (set-set, get_or-set_same keys page.frame (mark (get_or keys page.frame 0)) 0 (ltb-true _ _ e), twice)
+      go false e = let past : length keys ≤ page.frame = ltb-false _ _ e in simp set_out
 
   module _ (behind : ℕ → Walk) {f : ℕ} {p : Bool} (s : List ℕ) where
-    marked_again : (a q n : ℕ) (keys : List ℕ) → ((i : ℕ) → a ≤ i → i < a + n → behind i ≡ Page f p)
-        → marked behind mark (places (bytes_from s a q n)) (mark_key mark (Page f p) keys) ≡ mark_key mark (Page f p) keys
+    marked_again : (a q n : ℕ) (keys : List ℕ) → ((i : ℕ) → a ≤ i → i < a + n → behind i ≡ at_frame f p)
+        → marked behind mark (places (bytes_from s a q n)) (mark_key mark (at_frame f p) keys) ≡ mark_key mark (at_frame f p) keys
     unfolding bytes_from marked
     marked_again a q zero keys page = refl
     marked_again a q (suc n) keys page =
-        rw (marked, page a (omega arith) (omega arith), mark_twice (Page f p) keys)
+        rw (marked, page a (omega arith) (omega arith), mark_twice (at_frame f p) keys)
         (marked_again (a + 1) (q + 1) n keys (λ i low high. page i (omega arith) (omega arith)))
 
-    pub marked-in_page : (a q n : ℕ) (keys : List ℕ) → 0 < n → ((i : ℕ) → a ≤ i → i < a + n → behind i ≡ Page f p)
-        → marked behind mark (places (bytes_from s a q n)) keys ≡ mark_key mark (Page f p) keys
+    pub marked-in_page : (a q n : ℕ) (keys : List ℕ) → 0 < n → ((i : ℕ) → a ≤ i → i < a + n → behind i ≡ at_frame f p)
+        → marked behind mark (places (bytes_from s a q n)) keys ≡ mark_key mark (at_frame f p) keys
     unfolding bytes_from marked
     marked-in_page a q zero keys some page = absurd (omega arith)
     marked-in_page a q (suc n) keys some page =

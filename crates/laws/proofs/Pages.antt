@@ -1,4 +1,5 @@
--- Page by page: from what is found for one address of a page to what is found for the others.
+-- at_frame by page: from what is found for one address of a page to what is found for the others.
+use Rattle.std.specs.Prelude.{Err, Ok}
 use Prim.Native.Nat.{ℕ, zero, suc, ◌+◌, ◌*◌, ◌/◌, ◌%◌, ◌≤◌, ◌<◌}
 use native.Mathlib.Nat.{add-zero, add_assoc}
 use native.Mathlib.Omega.{arith}
@@ -11,18 +12,16 @@ use lib.ListN.{length, get_or}
 use Rattle.machine.specs.declared.Cpu.{Cpu}
 use Rattle.machine.specs.declared.Guest.{Guest}
 use Rattle.machine.specs.declared.Failure.{Failure}
-use Rattle.machine.specs.declared.Walk.{Walk}
-use Rattle.machine.specs.declared.Walk.TheVariants.{Page, Failed}
 use Rattle.machine.specs.Words.{byte_at}
 use Rattle.machine.specs.Psw.{wrap, control}
 use Rattle.machine.specs.Entry.{extent_bytes}
 use Rattle.machine.specs.Refusals.{frames_of}
 use Rattle.machine.specs.Failures.{host_fault, walk_exception}
 use Rattle.machine.specs.Frames.{ValidPage, page_of}
-use Rattle.machine.specs.Walk.{walk, frame_of, page_protected}
+use Rattle.machine.specs.Walk.{walk, frame_of, page_protected, Walk, at_frame}
 use Rattle.machine.specs.Host.{Host, Cell, Located, host_virtual, host_entry, in_storage, host_page, backing, in_frame, cell_of, view}
 use Rattle.machine.specs.Addresses.{prefixed, guest_entry, real_page, Access, reached, denied, settle, key_protects, in_page, low_protected, access, all, stopped, and_then, accesses, span}
-use Rattle.machine.proofs.Backing.{walk_by_page, no_failure, tested, ends_at_page, finds_page, page-in_storage}
+use Rattle.machine.proofs.Backing.{same_frame, walk_by_page, no_failure, tested, ends_at_page, finds_page, page-in_storage}
 use Rattle.laws.proofs.PageBytes.{bytes_from, wrap_by_mode}
 
 exception_of-page : (a b : ℕ) → a / 4096 ≡ b / 4096 → walk_exception a ≡ walk_exception b
@@ -57,12 +56,12 @@ prefixed_keeps_offset g a = go (eqb (a / 4096) 0) (eqb (a / 4096) g.prefix)
     go false true = omega arith
     go false false = refl
 
-walk-in_page : (d : ℕ) (s : List ℕ) (v w : ℕ) {f : ℕ} {p : Bool} → walk (host_entry s v) (host_fault v) d v ≡ Page f p → v / 4096 ≡ w / 4096
-    → walk (host_entry s w) (host_fault w) d w ≡ Page f p
+walk-in_page : (d : ℕ) (s : List ℕ) (v w : ℕ) {f : ℕ} {p : Bool} → walk (host_entry s v) (host_fault v) d v ≡ at_frame f p → v / 4096 ≡ w / 4096
+    → walk (host_entry s w) (host_fault w) d w ≡ at_frame f p
 walk-in_page d s v w e same =
     let valid : ValidPage d s (v / 4096) = (ends_at_page d s v e).0 in
     finds_page d s w (subst (ValidPage d s) same valid)
-    ∙ ap (λ page. Page (frame_of (page_of d s page)) (page_protected (page_of d s page))) (sym same)
+    ∙ ap (λ page. at_frame (frame_of (page_of d s page)) (page_protected (page_of d s page))) (sym same)
     ∙ sym (finds_page d s v valid)
     ∙ e
 
@@ -85,7 +84,7 @@ passed true f later e = no_denial e
 passed false f later e = later refl e
 
 module _ (g : Guest) (h : Host) where
-  pub backing-in_page : (a b : ℕ) {f : ℕ} {p : Bool} → backing g h a ≡ Page f p → a / 4096 ≡ b / 4096 → backing g h b ≡ Page f p
+  pub backing-in_page : (a b : ℕ) {f : ℕ} {p : Bool} → backing g h a ≡ at_frame f p → a / 4096 ≡ b / 4096 → backing g h b ≡ at_frame f p
   unfolding backing host_page in_storage
   backing-in_page a b {f} {p} e same =
       tested (ltb a (extent_bytes g))
@@ -99,7 +98,7 @@ module _ (g : Guest) (h : Host) where
       (λ _. no_failure)
       e
 
-  pub backing-in_storage : (a : ℕ) {f : ℕ} {p : Bool} → backing g h a ≡ Page f p → f * 4096 + 4096 ≤ length h.storage
+  pub backing-in_storage : (a : ℕ) {f : ℕ} {p : Bool} → backing g h a ≡ at_frame f p → f * 4096 + 4096 ≤ length h.storage
   unfolding backing host_page
   backing-in_storage a e =
       tested (ltb a (extent_bytes g))
@@ -115,9 +114,9 @@ module _ (g : Guest) (h : Host) where
       frame : ℕ
       protected : Bool
       high : (store && low_protected c a) ≡ false
-      mapped : real_page g (view g h) c a ≡ Page real real_protected
+      mapped : real_page g (view g h) c a ≡ at_frame real real_protected
       placed : l.absolute ≡ prefixed g (real * 4096 + a % 4096)
-      backed : backing g h l.absolute ≡ Page frame protected
+      backed : backing g h l.absolute ≡ at_frame frame protected
       allowed : ((store && real_protected) || key_protects c store (get_or h.keys frame 0)) ≡ false
       writable : (store && protected) ≡ false
       found : l.byte ≡ byte_at h.storage (in_frame frame l.absolute)
@@ -127,23 +126,23 @@ module _ (g : Guest) (h : Host) where
     route a {l} = passed (store && low_protected c a) _ λ high. in_real_lem high (real_page g (view g h) c a) refl
       where
         in_real_lem : (store && low_protected c a) ≡ false → (w : Walk) → real_page g (view g h) c a ≡ w → in_page g (view g h) c store a w ≡ reached l → Route a l
-        in_real_lem high (Failed x) mapped = no_denial
-        in_real_lem high (Page real protected) mapped = in_host (backing g h absolute) refl
+        in_real_lem high (Err x) mapped = no_denial
+        in_real_lem high (Ok page) mapped = in_host (backing g h absolute) refl
           where
             absolute : ℕ
-            absolute = prefixed g (real * 4096 + a % 4096)
+            absolute = prefixed g (page.frame * 4096 + a % 4096)
 
             in_host : (w : Walk) → backing g h absolute ≡ w
-                → settle g store (λ key. (store && protected) || key_protects c store key) absolute (cell_of h absolute w) ≡ reached l → Route a l
-            in_host (Failed x) backed = no_denial
-            in_host (Page frame hostProtected) backed = passed _ _ λ allowed. passed _ _ λ writable e.
-                let same : record { absolute = absolute; byte = byte_at h.storage (in_frame frame absolute) } ≡ l = cc in
+                → settle g store (λ key. (store && page.protected) || key_protects c store key) absolute (cell_of h absolute w) ≡ reached l → Route a l
+            in_host (Err x) backed = no_denial
+            in_host (Ok behind) backed = passed _ _ λ allowed. passed _ _ λ writable e.
+                let same : record { absolute = absolute; byte = byte_at h.storage (in_frame behind.frame absolute) } ≡ l = cc in
                 let placed : l.absolute ≡ absolute = ap (λ l. l.absolute) (sym same) in
                 record {
-                  real = real;
-                  real_protected = protected;
-                  frame = frame;
-                  protected = hostProtected;
+                  real = page.frame;
+                  real_protected = page.protected;
+                  frame = behind.frame;
+                  protected = behind.protected;
                   high = high;
                   mapped = mapped;
                   placed = placed;
@@ -190,22 +189,22 @@ module _ (g : Guest) (h : Host) where
         }
 
     pub reached_is_backed : (a : ℕ) {l : Located} → access g (view g h) c store a ≡ reached l
-        → (f : ℕ) × (p : Bool) × (backing g h l.absolute ≡ Page f p) × (l.byte ≡ byte_at h.storage (in_frame f l.absolute)) × (l.absolute % 4096 ≡ a % 4096)
+        → (f : ℕ) × (p : Bool) × (backing g h l.absolute ≡ at_frame f p) × (l.byte ≡ byte_at h.storage (in_frame f l.absolute)) × (l.absolute % 4096 ≡ a % 4096)
     reached_is_backed a e =
         let r = route a e in
         (r.frame, r.protected, r.backed, r.found, route_keeps_offset a r)
 
     -- `k` bytes on in the page: host absolute addresses go up as guest ones do
-    pub access-in_page : (a k : ℕ) {l : Located} {f : ℕ} {p : Bool} → access g (view g h) c store a ≡ reached l → backing g h l.absolute ≡ Page f p
+    pub access-in_page : (a k : ℕ) {l : Located} {f : ℕ} {p : Bool} → access g (view g h) c store a ≡ reached l → backing g h l.absolute ≡ at_frame f p
         → a % 4096 + k < 4096
         → access g (view g h) c store (a + k) ≡ reached (record { absolute = l.absolute + k; byte = byte_at h.storage (in_frame f l.absolute + k) })
     access-in_page a k {l} {f} e page inside =
         let r = route a e in
-        let same : f ≡ r.frame = cc r.backed in
+        let same : f ≡ r.frame = same_frame (sym page ∙ r.backed) in
         rw same (arrives (a + k) (route_in_page a k r inside))
 
     -- bytes that all lie in the page of the first
-    pub accesses-in_page : (a n : ℕ) {l : Located} {f : ℕ} {p : Bool} → access g (view g h) c store a ≡ reached l → backing g h l.absolute ≡ Page f p
+    pub accesses-in_page : (a n : ℕ) {l : Located} {f : ℕ} {p : Bool} → access g (view g h) c store a ≡ reached l → backing g h l.absolute ≡ at_frame f p
         → wrap c a ≡ a → a % 4096 + n ≤ 4096
         → accesses (access g (view g h) c store) (span c a n) ≡ all (bytes_from h.storage l.absolute (in_frame f l.absolute) n)
     unfolding bytes_from accesses span and_then

@@ -1,5 +1,6 @@
 -- Request 2/12: the stage of a failed answer and the address of its table entry say which entry was sought, and whether it was read.
 -- Assumes nothing.
+use Rattle.std.specs.Prelude.{Err, Ok}
 use Prim.Native.Nat.{ℕ, ◌+◌, ◌*◌, ◌/◌, ◌≤◌}
 use native.Mathlib.Omega.{arith}
 use mathlib.Core.Path.{◌≡◌, refl, sym, ap, ◌∙◌, subst}
@@ -8,8 +9,8 @@ use mathlib.Core.List.{List}
 use borrow.Author.Tests.{eqb-true, eqb-false, not-false}
 use lib.Dec.{eqb}
 use lib.ListN.{length}
-use Rattle.machine.specs.declared.Answer.TheVariants as answer
 use Rattle.machine.specs.declared.Cpu.{Cpu}
+use Rattle.machine.specs.declared.Reason.TheVariants as why
 use Rattle.machine.specs.declared.End.{End}
 use Rattle.machine.specs.declared.End.TheVariants.{Intercepted, HostFault, BudgetUsed}
 use Rattle.machine.specs.declared.Failure.{Failure}
@@ -18,21 +19,15 @@ use Rattle.machine.specs.declared.Numbers.{Numbers}
 use Rattle.machine.specs.declared.Sought.{Sought}
 use Rattle.machine.specs.declared.Stage.{Stage}
 use Rattle.machine.specs.declared.Stage.TheVariants.{None, GuestSegment, GuestPage, HostSegment, HostPage}
-use Rattle.machine.specs.declared.TableEntry.{TableEntry}
-use Rattle.machine.specs.declared.TableEntry.TheVariants.{Word, Unread}
 use Rattle.machine.specs.declared.Translated.TheVariants as translated
-use Rattle.machine.specs.declared.Verdict.{Verdict}
-use Rattle.machine.specs.declared.Verdict.TheVariants.{Accepted, Refused}
-use Rattle.machine.specs.declared.Walk.{Walk}
-use Rattle.machine.specs.declared.Walk.TheVariants.{Page, Failed}
 use Rattle.machine.specs.Words.{word_at}
 use Rattle.machine.specs.Sizes.{page_bytes}
 use Rattle.machine.specs.Record.{guest_of, cpu_of}
-use Rattle.machine.specs.Refusals.{translate_verdict}
+use Rattle.machine.specs.Refusals.{translate_verdict, Verdict}
 use Rattle.machine.specs.Entry.{entry_good}
 use Rattle.machine.specs.Psw.{dat_on, wrap, control}
 use Rattle.machine.specs.Failures.{protection, translation_specification, exception_of, walk_exception}
-use Rattle.machine.specs.Walk.{page_index, segment_invalid, segment_malformed, page_entry_at, past_page_table, walk}
+use Rattle.machine.specs.Walk.{page_index, segment_invalid, segment_malformed, page_entry_at, past_page_table, walk, TableEntry, Walk}
 use Rattle.machine.specs.Host.{Host, absent, Located, host_virtual, host_entry, view}
 use Rattle.machine.specs.Frames.{segment_place, segment_of, page_place, SegmentInReach, PageInReach}
 use Rattle.machine.specs.Addresses.{guest_entry, format_good, real_page, Access, reached, denied, in_page, low_protected, access}
@@ -41,10 +36,11 @@ use Rattle.machine.specs.Run.{Ended, run}
 use Rattle.machine.specs.Operations.{address_in, translated_to, translates, translated_as, translate, Result, result_of, machine_of}
 use Rattle.machine.specs.WhichTable.{WalksEndSo, OfSide, ReadByHost, ByHost, SegmentRead, PageRead, ReadByGuest, ByGuest, Asked, for_segment, for_page, for_byte, Named, TranslationsNameTheTable, RunsNameTheTable, SegmentWord, PageSought, Went, past_segments, lacks_segment, bad_segment, past_pages, lacks_page, bad_page, good_page, WaysAreWent}
 use Rattle.machine.proofs.Tests.{on_either_arm, by_either_test}
-use Rattle.machine.proofs.Runs.{run_of_cases}
+use Rattle.machine.proofs.Runs.{same_end, run_of_cases}
 use Rattle.machine.proofs.Ways.{walk_by_way, way_by_page, went, GoodWalk, finds, fails}
 use Rattle.machine.proofs.Backing.{read_or_not}
 use Rattle.machine.proofs.Backed.{Stands, Good, reaches, denies, settle-good, entry_lacks, exception_of-guest, stands_on_page, lacks_by_host}
+use Rattle.machine.specs.Answers.{run_answer}
 
 pub ways_are_went : WaysAreWent
 ways_are_went = went
@@ -66,14 +62,14 @@ tells_entry Read stage entry r same = record { read = λ other. r; given = same 
 
 -- the host's walk
 
-word_read : (s : List ℕ) (v at e : ℕ) → host_entry s v at ≡ Word e → (at + 4 ≤ length s) × (word_at s at ≡ e)
+word_read : (s : List ℕ) (v at e : ℕ) → host_entry s v at ≡ Ok e → (at + 4 ≤ length s) × (word_at s at ≡ e)
 word_read s v at e =
-    read_or_not (λ x. x ≡ Word e → (at + 4 ≤ length s) × (word_at s at ≡ e)) s v at (λ fits is. (fits, (cc)))
+    read_or_not (λ x. x ≡ Ok e → (at + 4 ≤ length s) × (word_at s at ≡ e)) s v at (λ fits is. (fits, (cc)))
     (λ past is. let z : ◌≡◌ {A = ℕ} 0 1 = cc in absurd (omega arith))
 
-not_read : (s : List ℕ) (v at : ℕ) (f : Failure) → host_entry s v at ≡ Unread f → at + 4 ≤ length s → ⊥
+not_read : (s : List ℕ) (v at : ℕ) (f : Failure) → host_entry s v at ≡ Err f → at + 4 ≤ length s → ⊥
 not_read s v at f =
-    read_or_not (λ x. x ≡ Unread f → at + 4 ≤ length s → ⊥) s v at (λ fits is _. let z : ◌≡◌ {A = ℕ} 0 1 = cc in omega arith)
+    read_or_not (λ x. x ≡ Err f → at + 4 ≤ length s → ⊥) s v at (λ fits is _. let z : ◌≡◌ {A = ℕ} 0 1 = cc in omega arith)
     (λ past is fits. omega arith)
 
 module _ (d : ℕ) (s : List ℕ) (v : ℕ) where
@@ -95,7 +91,7 @@ module _ (d : ℕ) (s : List ℕ) (v : ℕ) where
   page-place : {e : ℕ} → PageSought (host_entry s v) d (page * page_bytes) e → page_entry_at e (page_index (page * page_bytes)) ≡ page_place d s page
   page-place to = ap (λ e. page_entry_at e (page_index (page * page_bytes))) (sym (segment_is to.segment))
 
-  page_in-reach : {e p : ℕ} → PageSought (host_entry s v) d (page * page_bytes) e → host_entry s v (page_entry_at e (page_index (page * page_bytes))) ≡ Word p
+  page_in-reach : {e p : ℕ} → PageSought (host_entry s v) d (page * page_bytes) e → host_entry s v (page_entry_at e (page_index (page * page_bytes))) ≡ Ok p
       → PageInReach d s page
   page_in-reach {e} {p} to is = record {
     segment = segment_in_reach to.segment;
@@ -192,7 +188,7 @@ module _ (g : Guest) (h : Host) (c : Cpu) (a : ℕ) where
     segment-read : {e : ℕ} → SegmentWord seen (control c 1) a e → SegmentRead g h c a e
     segment-read segment = record { dat = dat; format = format; in_table = segment.in_table; is = segment.is }
 
-    page-read : {e p : ℕ} → PageSought seen (control c 1) a e → seen (page_entry_at e (page_index a)) ≡ Word p → PageRead g h c a e p
+    page-read : {e p : ℕ} → PageSought seen (control c 1) a e → seen (page_entry_at e (page_index a)) ≡ Ok p → PageRead g h c a e p
     page-read to is = record {
       segment = segment-read to.segment;
       valid = to.valid;
@@ -273,7 +269,7 @@ module _ (g : Guest) (h : Host) (c : Cpu) (a : ℕ) where
   unfolding found_by
   walk_asked dat format = rw walk_by_way (by_way (went seen (control c 1) a))
     where
-      coded : (code : ℕ) → GoodWalk AskedFor (Failed (walk_exception a code))
+      coded : (code : ℕ) → GoodWalk AskedFor (Err (walk_exception a code))
       coded code = fails (not_asked (walk_exception a code) (exception_of-guest a code))
 
       by_way : {w : Way} → Went seen (control c 1) a w → GoodWalk AskedFor (found_by (walk_exception a) w)
@@ -300,9 +296,9 @@ module _ (g : Guest) (h : Host) (c : Cpu) (a : ℕ) where
       (by_walk (real_page g (view g h) c a) refl page_asked)
     where
       by_walk : (w : Walk) → real_page g (view g h) c a ≡ w → GoodWalk AskedFor w → Good (view g h) AskedFor (in_page g (view g h) c store a w)
-      by_walk (Failed f) is (fails asked) = denies asked
-      by_walk (Page frame protected) is finds =
-          let asked = for_byte frame protected is in
+      by_walk (Err f) is (fails asked) = denies asked
+      by_walk (Ok page) is finds =
+          let asked = for_byte page.frame page.protected is in
           settle-good g (view g h) AskedFor store _ _ (λ f lacks. asked_at _ f lacks asked)
           (λ key guards. not_asked (exception_of protection) refl) (λ host. asked)
 
@@ -326,7 +322,7 @@ module _ (g : Guest) (h : Host) (c : Cpu) (a : ℕ) where
 
   -- one that reaches its byte fails by nothing
   pub reached_goes : (store : Bool) (l : Located) (f : Failure) (s : Sought) → access g (view g h) c store a ≡ reached l
-      → translated_to g h c a (reached l) ≡ translated.Failed f s → ⊥
+      → translated_to g h c a (reached l) ≡ Ok (translated.Failed f s) → ⊥
   unfolding translated_to address_in
   reached_goes store l f s is e =
       let page = stands_on_page g h l.absolute (by_access (subst (Good _ _) is (access_asked store))) in
@@ -350,7 +346,7 @@ translations_name_the_table r h a kind f s = by_verdict (translate_verdict r h.s
     store : Bool
     store = eqb kind 1
 
-    by_access : (x : Access) → access g (view g h) c store (wrap c a) ≡ x → translated_to g h c (wrap c a) x ≡ translated.Failed f s
+    by_access : (x : Access) → access g (view g h) c store (wrap c a) ≡ x → translated_to g h c (wrap c a) x ≡ Ok (translated.Failed f s)
         → Named g h c (wrap c a) f s
     by_access (denied f') is e =
         let same : f' ≡ f = cc in
@@ -358,10 +354,10 @@ translations_name_the_table r h a kind f s = by_verdict (translate_verdict r h.s
         subst (Named g h c (wrap c a) f) table (denied-named g h c (wrap c a) store f (is ∙ ap denied same))
     by_access (reached l) is e = absurd (reached_goes g h c (wrap c a) store l f s is e)
 
-    by_verdict : (v : Verdict) → translated_as r h a kind v ≡ translated.Failed f s → Named g h c (wrap c a) f s
-    by_verdict (Refused number) e = let z : ◌≡◌ {A = ℕ} 0 1 = cc in absurd (omega arith)
-    by_verdict Accepted e =
-        on_either_arm (λ t. t ≡ translated.Failed f s → Named g h c (wrap c a) f s) (entry_good g && translates c)
+    by_verdict : (v : Verdict) → translated_as r h a kind v ≡ Ok (translated.Failed f s) → Named g h c (wrap c a) f s
+    by_verdict (Err number) e = let z : ◌≡◌ {A = ℕ} 0 1 = cc in absurd (omega arith)
+    by_verdict (Ok _) e =
+        on_either_arm (λ t. t ≡ Ok (translated.Failed f s) → Named g h c (wrap c a) f s) (entry_good g && translates c)
         (by_access (access g (view g h) c store (wrap c a)) refl) (λ e. let z : ◌≡◌ {A = ℕ} 0 1 = cc in absurd (omega arith)) e
 
 pub runs_name_the_table : RunsNameTheTable
@@ -369,14 +365,14 @@ unfolding result_of end_sought
 runs_name_the_table = record {
   faults =
       λ n r storage keys f units.
-      run_of_cases n r storage keys (λ (x : Result). x.answer ≡ answer.Ended (HostFault f) units → ByHost n.designation x.storage f x.table)
+      run_of_cases n r storage keys (λ (x : Result). x.answer ≡ run_answer (HostFault f) units → ByHost n.designation x.storage f x.table)
       (λ number refused e. let z : ◌≡◌ {A = ℕ} 0 1 = cc in absurd (omega arith))
-      (λ accepted bad e. let z : ◌≡◌ {A = ℕ} 0 1 = cc in absurd (omega arith))
-      (λ accepted good e. faulted n (run n.budget n (machine_of n r storage keys)) f (cc));
+      (λ accepted bad e. let ends : ◌≡◌ {A = End} (Intercepted why.Validity) (HostFault f) = same_end e in let z : ◌≡◌ {A = ℕ} 0 1 = cc in absurd (omega arith))
+      (λ accepted good e. faulted n (run n.budget n (machine_of n r storage keys)) f (same_end e));
   others =
       λ n r storage keys.
       run_of_cases n r storage keys
-      (λ (x : Result). ((f : Failure) (units : ℕ) → x.answer ≡ answer.Ended (HostFault f) units → ⊥) → x.table ≡ nowhere)
+      (λ (x : Result). ((f : Failure) (units : ℕ) → x.answer ≡ run_answer (HostFault f) units → ⊥) → x.table ≡ nowhere)
       (λ number refused other. refl) (λ accepted bad other. refl)
       (λ accepted good. unfaulted n (run n.budget n (machine_of n r storage keys)));
 }
@@ -390,6 +386,6 @@ runs_name_the_table = record {
     by_end d s (HostFault f) other = absurd (other f refl)
     by_end d s BudgetUsed other = refl
 
-    unfaulted : (n : Numbers) (e : Ended) → ((f : Failure) (units : ℕ) → (result_of n e).answer ≡ answer.Ended (HostFault f) units → ⊥)
+    unfaulted : (n : Numbers) (e : Ended) → ((f : Failure) (units : ℕ) → (result_of n e).answer ≡ run_answer (HostFault f) units → ⊥)
         → (result_of n e).table ≡ nowhere
-    unfaulted n e other = by_end _ _ e.end (λ f is. other f e.units (ap (λ x. answer.Ended x e.units) is))
+    unfaulted n e other = by_end _ _ e.end (λ f is. other f e.units (ap (λ x. run_answer x e.units) is))

@@ -3,9 +3,10 @@
 #![tactic(auto)]
 
 ghost use Rattle.std.specs.Prelude.{◌≡◌, true};
+ghost use Rattle.machine.specs.Refusals.{no_refusal};
 ghost use Rattle.limits.specs.Parts.{storage_verdict, numbers_verdict, access_verdict};
 
-use machine::{Numbers, Verdict};
+use machine::{Numbers, Refusal, Verdict};
 
 const FRAME: usize = 4096;
 
@@ -17,74 +18,51 @@ const MOST_TIME: u32 = 1048576;
 
 const INSTRUCTION_FETCH: u32 = 2;
 
-// The numbers of the refusals.
-const WRONG_STORAGE: u32 = 3;
-
-const WRONG_KEYS: u32 = 4;
-
-const WRONG_BUDGET: u32 = 5;
-
-const WRONG_TIME: u32 = 6;
-
-const WRONG_ACCESS: u32 = 8;
-
 // The storage has as many whole frames as there are keys, at least one and not too many.
 fn framed(storage: &[u8], keys: &[u8]) -> bool
-    ensures { result ≡ true → storage_verdict storage.now keys.now ≡ Verdict.Accepted }
+    ensures { result ≡ true → storage_verdict storage.now keys.now ≡ no_refusal }
 {
-    if keys.len() > MOST_FRAMES {
-        return false;
-    }
-    if storage.len() != keys.len() * FRAME {
-        return false;
-    }
-    storage.len() != 0
+    keys.len() <= MOST_FRAMES && storage.len() == keys.len() * FRAME && storage.len() != 0
 }
 
 // The lengths of storage and keys.
+#[tactic(auto, unfolding(crate::specs::Parts::storage_verdict, machine::specs::Refusals::wrong_storage, machine::specs::Refusals::wrong_keys))]
 pub fn storage_verdict(storage: &[u8], keys: &[u8]) -> Verdict
     ensures { result ≡ storage_verdict storage.now keys.now }
 {
     if framed(storage, keys) {
-        return Verdict::Accepted;
+        return Ok(());
     }
-    if storage.len() == 0 {
-        return Verdict::Refused(WRONG_STORAGE);
-    }
-    if storage.len() > MOST_FRAMES * FRAME {
-        return Verdict::Refused(WRONG_STORAGE);
-    }
-    if storage.len() % FRAME != 0 {
-        return Verdict::Refused(WRONG_STORAGE);
+    if storage.len() == 0 || storage.len() > MOST_FRAMES * FRAME || storage.len() % FRAME != 0 {
+        return Err(Refusal::WrongStorage);
     }
     if keys.len() != storage.len() / FRAME {
-        return Verdict::Refused(WRONG_KEYS);
+        return Err(Refusal::WrongKeys);
     }
-    Verdict::Accepted
+    Ok(())
 }
 
 // The budget and the time per unit.
+#[tactic(auto, unfolding(crate::specs::Parts::numbers_verdict, machine::specs::Refusals::wrong_budget, machine::specs::Refusals::wrong_time))]
 pub fn numbers_verdict(n: Numbers) -> Verdict
     ensures { result ≡ numbers_verdict n }
 {
     if n.budget > MOST_UNITS {
-        return Verdict::Refused(WRONG_BUDGET);
+        return Err(Refusal::WrongBudget);
     }
-    if n.time == 0 {
-        return Verdict::Refused(WRONG_TIME);
+    if n.time == 0 || n.time > MOST_TIME {
+        return Err(Refusal::WrongTime);
     }
-    if n.time > MOST_TIME {
-        return Verdict::Refused(WRONG_TIME);
-    }
-    Verdict::Accepted
+    Ok(())
 }
 
 // The access kind.
+#[tactic(auto, unfolding(crate::specs::Parts::access_verdict, machine::specs::Refusals::wrong_access))]
 pub fn access_verdict(kind: u32) -> Verdict
     ensures { result ≡ access_verdict kind }
 {
     if kind > INSTRUCTION_FETCH {
-        return Verdict::Refused(WRONG_ACCESS);
+        return Err(Refusal::WrongAccess);
     }
-    Verdict::Accepted
+    Ok(())
 }

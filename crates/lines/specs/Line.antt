@@ -1,11 +1,10 @@
 -- The line that a case prints, in ASCII. Document 01, "Case file and worked examples".
-use Rattle.std.specs.Prelude.{ℕ, zero, suc, ◌+◌, ◌/◌, ◌%◌, ◌^◌, cond, List, [], ◌∷◌, ◌++◌, eqb, ltb}
-use Rattle.machine.specs.declared.Answer.{Answer}
-use Rattle.machine.specs.declared.Answer.TheVariants.{Refused, Ended}
+use Rattle.std.specs.Prelude.{ℕ, zero, suc, ◌+◌, ◌/◌, ◌%◌, ◌^◌, cond, List, [], ◌∷◌, ◌++◌, eqb, ltb, Err, Ok}
 use Rattle.machine.specs.declared.End.{End}
 use Rattle.machine.specs.declared.End.TheVariants.{Intercepted, HostFault, BudgetUsed}
-use Rattle.machine.specs.Answers.{end_number}
+use Rattle.machine.specs.Answers.{refusal_number, end_number}
 use Rattle.packing.specs.Packing.{intercepted_kind, host_fault_kind, budget_kind}
+use Rattle.machine.specs.Refusals.{RunAnswer}
 
 abbrev pub newline : ℕ
 newline = 10
@@ -57,9 +56,9 @@ end_letter (Intercepted r) = letter_i
 end_letter (HostFault f) = letter_h
 end_letter BudgetUsed = letter_b
 
-unfoldable pub line_of : Answer → List ℕ
-line_of (Refused number) = refusal_line number
-line_of (Ended e units) = end_line (end_letter e) (end_number e) units
+unfoldable pub line_of : RunAnswer → List ℕ
+line_of (Err refusal) = refusal_line (refusal_number refusal)
+line_of (Ok stopped) = end_line (end_letter stopped.end) (end_number stopped.end) stopped.units
 
 -- the line of a packed answer of run, by its kind, its number and its units
 

@@ -1,10 +1,11 @@
 -- Each instruction that fetches, by what was reached of its operand.
 -- Assumes nothing.
-use Prim.Native.Nat.{ℕ, ◌+◌, ◌-◌, ◌≤◌, ◌<◌}
+use Rattle.std.specs.Prelude.{Err, Ok}
+use Prim.Native.Nat.{ℕ, ◌-◌, ◌≤◌, ◌<◌}
 use mathlib.Core.Path.{◌≡◌, refl, ap, sym, subst, ◌∙◌}
-use mathlib.Core.Bool.{true, false}
+use mathlib.Core.Bool.{false}
 use mathlib.Core.List.{List, ◌++◌}
-use lib.ListN.{length, take, drop}
+use lib.ListN.{take, drop}
 use Rattle.machine.specs.declared.Cpu.{Cpu}
 use Rattle.machine.specs.declared.Guest.{Guest}
 use Rattle.machine.specs.declared.Psw.{Psw}
@@ -22,8 +23,8 @@ use Rattle.interruptions.specs.declared.Event.TheVariants as event
 use Rattle.interruptions.specs.declared.Frames.{Frames}
 use Rattle.interruptions.specs.After.{left_by, with_registers, Standing, Left}
 use Rattle.interruptions.proofs.Leaving.{past_it}
-use Rattle.execute.specs.declared.Reached.{Reached}
-use Rattle.execute.specs.Reaching.{Reaches, Within}
+use Rattle.pieces.specs.declared.Pieces.{Pieces}
+use Rattle.execute.specs.Reaching.{Reaches}
 use Rattle.execute.proofs.Reaching.{fetched_shut, fetched_open}
 
 -- a wrapped address of the instruction's text
@@ -35,11 +36,6 @@ Addresses c text a place =
 -- the PSW past the instruction
 abbrev Moves : Cpu → Text → Psw → Type 0
 Moves c text psw = (k : Cpu) → k.psw ≡ c.psw → psw ≡ (advanced k text.ilc).psw
-
--- what was reached of an operand that is open lies in storage
-pub opened : {storage : List ℕ} {n : ℕ} {r : Reached} → Within storage n r → r.shut ≡ false
-    → (r.count ≤ n) × ((r.first + r.count ≤ length storage) × (r.second + (n - r.count) ≤ length storage))
-opened within found = (within.few found, (within.first found, within.second found))
 
 module _ (h : Host) (x : Progress) {g : Guest} {clock : ℕ} {c : Cpu} {text : Text} {t : Frames} (standing : Standing h x g clock c text t) where
   -- past the instruction, with what it loaded
@@ -79,18 +75,17 @@ module _ (h : Host) (x : Progress) {g : Guest} {clock : ℕ} {c : Cpu} {text : T
   at addresses = addresses.1 x (ap (λ k. k.psw) standing.of_cpu) (ap (λ k. k.general) standing.of_cpu) standing.of_text
 
   module _ {a n m : ℕ} {place : Progress → ℕ} (addresses : Addresses c text a place) (some : 0 < n) (few : n ≤ 4096) (as_many : n ≡ m)
-      (r : Reached) (storage keys : List ℕ) (after : List ℕ → Cpu) where
-    pub fetch_shut : Reaches h g x c t false n r storage keys (operand_of g h c false a n) → r.shut ≡ true
-        → Left h g c (fetching x (place x) m after) r.done storage keys
-    fetch_shut reaches shut =
-        subst (λ b. Left h g c (fetching x b m after) r.done storage keys) (at addresses)
-        (subst (λ m. Left h g c (fetching x a m after) r.done storage keys) as_many
-        (fetched_shut h x standing a n (addresses.0 c refl) some few r storage keys after reaches shut))
-
-    pub fetch_open : Reaches h g x c t false n r storage keys (operand_of g h c false a n) → r.shut ≡ false → (d : Done) → d.event ≡ event.Completed
-        → left_by c d ≡ after (take r.count (drop r.first storage) ++ take (n - r.count) (drop r.second storage))
-        → Left h g c (fetching x (place x) m after) d storage keys
-    fetch_open reaches found d ended left =
+      (storage keys : List ℕ) (after : List ℕ → Cpu) (d : Done) where
+    pub fetch_shut : Reaches h g x c t false n (Err d) storage keys (operand_of g h c false a n) → Left h g c (fetching x (place x) m after) d storage keys
+    fetch_shut reaches =
         subst (λ b. Left h g c (fetching x b m after) d storage keys) (at addresses)
         (subst (λ m. Left h g c (fetching x a m after) d storage keys) as_many
-        (fetched_open h x standing a n (addresses.0 c refl) some few r storage keys after reaches found d ended left))
+        (fetched_shut h x standing a n (addresses.0 c refl) some few storage keys after d reaches))
+
+    pub fetch_open : (o : Pieces) → Reaches h g x c t false n (Ok o) storage keys (operand_of g h c false a n) → d.event ≡ event.Completed
+        → left_by c d ≡ after (take o.count (drop o.first storage) ++ take (n - o.count) (drop o.second storage))
+        → Left h g c (fetching x (place x) m after) d storage keys
+    fetch_open o reaches ended left =
+        subst (λ b. Left h g c (fetching x b m after) d storage keys) (at addresses)
+        (subst (λ m. Left h g c (fetching x a m after) d storage keys) as_many
+        (fetched_open h x standing a n (addresses.0 c refl) some few storage keys after o reaches d ended left))

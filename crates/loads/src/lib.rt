@@ -11,44 +11,33 @@ ghost use Rattle.execute.specs.Reaching.{Ready, Does};
 
 use interruptions::{Done, Frames};
 use machine::{Cpu, Guest, Registers, Text};
+use pieces::Pieces;
 
 const SIXTEEN_WORDS: usize = 64;
 
-// The control registers with n words of these bytes in those from register i on, through 15 to 0.
-fn controls(control: Registers, bytes: &[u8], i: u32, n: u32) -> Registers
+// n words of these bytes, put into the control registers from register i on, through 15 to 0.
+pub fn load_words(control: &mut [u32; 16], bytes: &[u8], i: usize, n: usize)
     requires { (i < 16) × (n ≤ 16) × (4 * n ≤ length bytes.now) }
-    ensures { (c : Cpu) → c.control ≡ control → with_registers c result ≡ with_controls c i (words_at bytes.now 0 n) }
+    ensures { (c : Cpu) → c.control.words ≡ control.old → with_registers c (record { words = control.new }) ≡ with_controls c i (words_at bytes.now 0 n) }
 {
-    let mut words = control.words;
-    let mut at = i;
-    let mut k = 0;
-    while k < n {
-        words[at as usize] = words::word_at(bytes, 4 * k as usize);
-        at = (at + 1) % 16;
-        k += 1;
+    for k in 0..n {
+        control[(i + k) % 16] = words::word_at(bytes, 4 * k);
     }
-    Registers { words }
 }
 
 // The control registers with the n words of an operand in those from register i on. The whole operand is read before.
-fn operand_controls(
-    control: Registers,
-    storage: &[u8],
-    first: u32,
-    count: u32,
-    second: u32,
-    i: u32,
-    n: u32,
-) -> Registers
-    requires i_bound { (i < 16) × (n ≤ 16) × (count ≤ 4 * n) }
-    requires count_in_bounds { first + count ≤ length storage.now }
-    requires count_in_bounds_2 { second + (4 * n - count) ≤ length storage.now }
-    ensures { (c : Cpu) → c.control ≡ control → with_registers c result ≡ with_controls c i (words_at (take count (drop first storage.now) ++ take (4 * n - count) (drop second storage.now)) 0 n) }
+fn operand_controls(control: Registers, storage: &[u8], p: Pieces, i: u32, n: u32) -> Registers
+    requires i_bound { (i < 16) × (n ≤ 16) × (p.count ≤ 4 * n) }
+    requires first_in_bounds { p.first + p.count ≤ length storage.now }
+    requires second_in_bounds { p.second + (4 * n - p.count) ≤ length storage.now }
+    ensures { (c : Cpu) → c.control ≡ control → with_registers c result ≡ with_controls c i (words_at (take p.count (drop p.first storage.now) ++ take (4 * n - p.count) (drop p.second storage.now)) 0 n) }
 {
     let mut bytes = [0; SIXTEEN_WORDS];
     let size = 4 * n as usize;
-    reader::get_operand(&mut bytes[..size], storage, first, count, second);
-    controls(control, &bytes[..size], i, n)
+    reader::get_operand(&mut bytes[..size], storage, p);
+    let mut control = control;
+    load_words(&mut control.words, &bytes[..size], i as usize, n as usize);
+    control
 }
 
 // LOAD (L).
@@ -65,12 +54,11 @@ pub fn load(
     ensures { (clock : ℕ) → Does load (host designation storage.old keys.old) guest clock cpu text t result storage.new keys.new }
 {
     let a = cpu::indexed_address(cpu.psw, cpu.general, text);
-    let o = execute::reach(storage, keys, designation, guest, cpu, text, t, false, a, 4);
-    let done = o.done;
-    if o.shut {
-        return done;
-    }
-    let value = reader::operand_word(storage, o.first, o.count, o.second);
+    let o = match execute::reach(storage, keys, designation, guest, cpu, text, t, false, a, 4) {
+        Ok(o) => o,
+        Err(done) => return done,
+    };
+    let value = u32::from_be_bytes(reader::operand(storage, o));
     let psw = cpu::advanced(cpu.psw, text.ilc as u32);
     interruptions::with_general(cpu, psw, text.first as u32 / 16 % 16, value)
 }
@@ -89,12 +77,12 @@ pub fn load_psw(
     ensures { (clock : ℕ) → Does load_psw (host designation storage.old keys.old) guest clock cpu text t result storage.new keys.new }
 {
     let a = cpu::operand_address(cpu.psw, cpu.general, text);
-    let o = execute::reach(storage, keys, designation, guest, cpu, text, t, false, a, 8);
-    let done = o.done;
-    if o.shut {
-        return done;
-    }
-    let psw = reader::operand_psw(storage, o.first, o.count, o.second, cpu.psw.system370);
+    let o = match execute::reach(storage, keys, designation, guest, cpu, text, t, false, a, 8) {
+        Ok(o) => o,
+        Err(done) => return done,
+    };
+    let bytes: [u8; 8] = reader::operand(storage, o);
+    let psw = words::psw_at(&bytes, 0, cpu.psw.system370);
     interruptions::with_psw(cpu, psw)
 }
 
@@ -112,12 +100,11 @@ pub fn set_timer(
     ensures { (clock : ℕ) → Does set_timer (host designation storage.old keys.old) guest clock cpu text t result storage.new keys.new }
 {
     let a = cpu::operand_address(cpu.psw, cpu.general, text);
-    let o = execute::reach(storage, keys, designation, guest, cpu, text, t, false, a, 8);
-    let done = o.done;
-    if o.shut {
-        return done;
-    }
-    let timer = reader::operand_double(storage, o.first, o.count, o.second);
+    let o = match execute::reach(storage, keys, designation, guest, cpu, text, t, false, a, 8) {
+        Ok(o) => o,
+        Err(done) => return done,
+    };
+    let timer = u64::from_be_bytes(reader::operand(storage, o));
     let psw = cpu::advanced(cpu.psw, text.ilc as u32);
     interruptions::with_timer(cpu, psw, timer)
 }
@@ -138,13 +125,12 @@ pub fn load_control(
     let a = cpu::operand_address(cpu.psw, cpu.general, text);
     let count = cpu::range_count(text);
     let n = 4 * count;
-    let o = execute::reach(storage, keys, designation, guest, cpu, text, t, false, a, n);
-    let done = o.done;
-    if o.shut {
-        return done;
-    }
+    let o = match execute::reach(storage, keys, designation, guest, cpu, text, t, false, a, n) {
+        Ok(o) => o,
+        Err(done) => return done,
+    };
     let i = text.first as u32 / 16 % 16;
-    let control = operand_controls(cpu.control, storage, o.first, o.count, o.second, i, count);
+    let control = operand_controls(cpu.control, storage, o, i, count);
     let psw = cpu::advanced(cpu.psw, text.ilc as u32);
     interruptions::with_controls(cpu, psw, control)
 }

@@ -9,7 +9,6 @@ use mathlib.Core.Logic.{⊎_elim}
 use lib.Dec.{eqb, leb}
 use lib.ListN.{length}
 use borrow.Author.Tests.{eqb-true, eq-eqb, ne_eqb, le-ltb, lt-leb}
-use Rattle.machine.specs.declared.Answer.TheVariants.{Ended}
 use Rattle.machine.specs.declared.End.TheVariants.{Intercepted}
 use Rattle.machine.specs.declared.Numbers.{Numbers}
 use Rattle.machine.specs.declared.Reason.TheVariants.{Stop}
@@ -24,6 +23,7 @@ use Rattle.machine.specs.Operations.{result_of, machine_of, run_as, run_of}
 use Rattle.machine.specs.Theorems.{GoodInput, GoodInputIsAccepted, BudgetAndStopDiffer}
 use Rattle.machine.proofs.Laws.{guest_of-with_results}
 use Rattle.machine.proofs.Verdicts.{unused}
+use Rattle.machine.specs.Answers.{run_answer}
 
 module _ (r storage keys : List ℕ) (good : GoodInput r storage keys) where
   length-good : wrong_length r ≡ false
@@ -95,7 +95,7 @@ good_input_is_accepted = record {
 
 -- with a stop request the first unit is an exit
 stopped_at_once : (b : ℕ) (n : Numbers) (m : Machine) → 0 < b → stop_requested (guest_of m.description) ≡ true
-    → (result_of n (run b n m)).answer ≡ Ended (Intercepted Stop) 0
+    → (result_of n (run b n m)).answer ≡ run_answer (Intercepted Stop) 0
 unfolding result_of run step step_of onward unit_from unit
 stopped_at_once zero n m some stop = absurd (omega arith)
 stopped_at_once (suc b) n m some stop = rw stop

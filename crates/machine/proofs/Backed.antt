@@ -1,5 +1,6 @@
 -- What a unit does through the view: it completes with places where something stands, and faults by the host alone, with protection or for
 -- an address of the extent.
+use Rattle.std.specs.Prelude.{Err, Ok}
 use Prim.Native.Nat.{ℕ, zero, suc, ◌+◌, ◌*◌, ◌/◌, ◌%◌, ◌≤◌, ◌<◌}
 use native.Mathlib.Omega.{arith}
 use mathlib.Core.Path.{◌≡◌, refl, sym, ap, ◌∙◌, subst}
@@ -9,27 +10,25 @@ use mathlib.Core.Logic.{inl, inr}
 use borrow.Author.Tests.{eq-eqb, lt-ltb}
 use lib.Dec.{eqb, ltb}
 use lib.ListN.{length}
-use Rattle.machine.specs.declared.Answer.TheVariants as answer
 use Rattle.machine.specs.declared.Class.{Class}
 use Rattle.machine.specs.declared.Class.TheVariants.{Lr, Ar, Sr, Bcr, Svc, La, Bc, St, L, Lpsw, Stctl, Lctl, Stck, Spt, Stpt, Mandatory, Unassigned}
 use Rattle.machine.specs.declared.Cpu.{Cpu}
-use Rattle.machine.specs.declared.End.TheVariants.{HostFault}
+use Rattle.machine.specs.declared.End.{End}
+use Rattle.machine.specs.declared.End.TheVariants.{Intercepted, HostFault}
 use Rattle.machine.specs.declared.Failure.{Failure}
 use Rattle.machine.specs.declared.Guest.{Guest}
 use Rattle.machine.specs.declared.Numbers.{Numbers}
 use Rattle.machine.specs.declared.Opcode.{Opcode}
 use Rattle.machine.specs.declared.Reason.{Reason}
-use Rattle.machine.specs.declared.TableEntry.TheVariants.{Unread}
+use Rattle.machine.specs.declared.Reason.TheVariants.{Validity}
 use Rattle.machine.specs.declared.Text.{Text}
-use Rattle.machine.specs.declared.Walk.{Walk}
-use Rattle.machine.specs.declared.Walk.TheVariants.{Page, Failed}
 use Rattle.machine.specs.Record.{guest_of}
 use Rattle.machine.specs.Sizes.{page_bytes}
 use Rattle.machine.specs.Entry.{extent_bytes, entry_good}
 use Rattle.machine.specs.Interval.{word_place}
 use Rattle.machine.specs.Psw.{basic_control, control, instruction_address}
 use Rattle.machine.specs.Failures.{protection, addressing, translation_specification, is_translation, host_fault, exception_of, walk_exception}
-use Rattle.machine.specs.Walk.{walk}
+use Rattle.machine.specs.Walk.{walk, Walk}
 use Rattle.machine.specs.Host.{Host, Cell, absent, present, Located, places, host_virtual, host_entry, in_storage, host_page, backing, cell_of, view}
 use Rattle.machine.specs.Addresses.{prefixed, entry_of, guest_entry, real_page, Access, reached, denied, settle, real_access, in_page, low_protected, access, Accesses, all, stopped, and_then, accesses, up_from, when_reached}
 use Rattle.machine.specs.Outcomes.{Effects, Outcome, completed, intercepted, faulted, Progress}
@@ -41,10 +40,11 @@ use Rattle.machine.specs.Operations.{result_of, machine_of}
 use Rattle.machine.specs.Theorems.{HasPage, Each, none, more, EffectsAreBacked, WordIsBacked, FaultsAreTheHosts}
 use Rattle.machine.proofs.Tests.{on_either_arm, by_test}
 use Rattle.machine.proofs.Laws.{guest_of-with_cpu, guest_of-with_results, guest_of-with_request, guest_of-with_interval}
-use Rattle.machine.proofs.Runs.{exit_keeps, step_cases, left_by_lem, step_keeps, run_of_cases}
+use Rattle.machine.proofs.Runs.{exit_keeps, step_cases, left_by_lem, step_keeps, same_end, run_of_cases}
 use Rattle.machine.proofs.Entry.{entry-placed}
 use Rattle.machine.proofs.Ways.{GoodWalk, finds, fails, walk-good}
 use Rattle.machine.proofs.Backing.{page_in_extent, read_or_not, OfExtent}
+use Rattle.machine.specs.Answers.{run_answer}
 
 each_append : {P : ℕ → Type 0} {l m : List ℕ} → Each P l → Each P m → Each P (l ++ m)
 each_append none h = h
@@ -109,11 +109,11 @@ settle-good g v Q store protects a lacks guards hosts = by_cell (v a) refl
         (reaches (record { byte = byte; key = key; protected = protected; cell = e })))
 
 -- a guest table entry that cannot be read is one that the view lacks
-pub entry_lacks : (g : Guest) (v : ℕ → Cell) (real : ℕ) (f : Failure) → guest_entry g v real ≡ Unread f → v (prefixed g real) ≡ absent f
+pub entry_lacks : (g : Guest) (v : ℕ → Cell) (real : ℕ) (f : Failure) → guest_entry g v real ≡ Err f → v (prefixed g real) ≡ absent f
 unfolding guest_entry entry_of
 entry_lacks g v real f is = by_cell (v (prefixed g real)) is
   where
-    by_cell : (cell : Cell) → entry_of v (prefixed g real) cell ≡ Unread f → cell ≡ absent f
+    by_cell : (cell : Cell) → entry_of v (prefixed g real) cell ≡ Err f → cell ≡ absent f
     by_cell (absent f') e = cc
     by_cell (present byte key protected) e = let z : ◌≡◌ {A = ℕ} 0 1 = cc in absurd (omega arith)
 
@@ -139,7 +139,7 @@ module _ (g : Guest) (v : ℕ → Cell) (H : Failure → Type 0) (so : Faults g 
   unfolding real_page
   real_page-good c a = search (on_either_arm (GoodWalk FaultIs), finds, no_format, walks)
     where
-      no_format : GoodWalk FaultIs (Failed (exception_of translation_specification))
+      no_format : GoodWalk FaultIs (Err (exception_of translation_specification))
       no_format = fails (of_guest_lem _ refl)
 
       walks : GoodWalk FaultIs (walk (guest_entry g v) (walk_exception a) (control c 1) a)
@@ -311,9 +311,9 @@ module _ (g : Guest) (v : ℕ → Cell) (H : Failure → Type 0) (so : Faults g 
 abbrev OfAddress : ℕ → Failure → Type 0
 OfAddress v f = (f.host ≡ true) × (f.address ≡ v)
 
-entry_of-host : (s : List ℕ) (v at : ℕ) (f : Failure) → host_entry s v at ≡ Unread f → OfAddress v f
+entry_of-host : (s : List ℕ) (v at : ℕ) (f : Failure) → host_entry s v at ≡ Err f → OfAddress v f
 entry_of-host s v at f =
-    read_or_not (λ x. x ≡ Unread f → OfAddress v f) s v at (λ fits e. let z : ◌≡◌ {A = ℕ} 0 1 = cc in absurd (omega arith))
+    read_or_not (λ x. x ≡ Err f → OfAddress v f) s v at (λ fits e. let z : ◌≡◌ {A = ℕ} 0 1 = cc in absurd (omega arith))
     (λ past e. let is : host_fault v addressing ≡ f = cc in subst (OfAddress v) is (refl, refl))
 
 host-page_of-host : (h : Host) (v : ℕ) → GoodWalk (OfAddress v) (host_page h v)
@@ -338,8 +338,8 @@ module _ (g : Guest) (h : Host) where
   stands_on_page a s = by_walk (backing g h a) refl s.cell
     where
       by_walk : (w : Walk) → backing g h a ≡ w → cell_of h a w ≡ present s.byte s.key s.protected → HasPage (backing g h) a
-      by_walk (Failed f) e cell = let z : ◌≡◌ {A = ℕ} 0 1 = cc in absurd (omega arith)
-      by_walk (Page frame protected) e cell = record { frame = frame; protected = protected; page = e }
+      by_walk (Err f) e cell = let z : ◌≡◌ {A = ℕ} 0 1 = cc in absurd (omega arith)
+      by_walk (Ok page_) e cell = record { frame = page_.frame; protected = page_.protected; page = e }
 
   -- what the view lacks below the extent, it lacks by a host fault of the address
   lacks_below : (a : ℕ) (f : Failure) → ltb a (extent_bytes g) ≡ true → view g h a ≡ absent f → OfAddress (host_virtual g a) f
@@ -470,7 +470,7 @@ run_faults g good (suc b) n m guest f e =
 pub faults_are_the_hosts : FaultsAreTheHosts
 unfolding result_of machine_of
 faults_are_the_hosts n r storage keys f units =
-    run_of_cases n r storage keys (λ result. result.answer ≡ answer.Ended (HostFault f) units → f.host ≡ true)
+    run_of_cases n r storage keys (λ result. result.answer ≡ run_answer (HostFault f) units → f.host ≡ true)
     (λ number refused e. let z : ◌≡◌ {A = ℕ} 0 1 = cc in absurd (omega arith))
-    (λ accepted bad e. let z : ◌≡◌ {A = ℕ} 0 1 = cc in absurd (omega arith))
-    (λ accepted good e. (run_faults (guest_of r) good n.budget n (machine_of n r storage keys) (guest_of-with_results _ r) f (cc)).host)
+    (λ accepted bad e. let ends : ◌≡◌ {A = End} (Intercepted Validity) (HostFault f) = same_end e in let z : ◌≡◌ {A = ℕ} 0 1 = cc in absurd (omega arith))
+    (λ accepted good e. (run_faults (guest_of r) good n.budget n (machine_of n r storage keys) (guest_of-with_results _ r) f (same_end e)).host)

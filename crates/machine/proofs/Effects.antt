@@ -1,4 +1,5 @@
 -- The effects of a unit on a pair of lists that change alike: they stay equal at the places `Q`, and as they started elsewhere.
+use Rattle.std.specs.Prelude.{Err, Ok}
 use Prim.Native.Nat.{ℕ, zero, suc, ◌%◌}
 use mathlib.Core.Path.{◌≡◌, refl, sym, ap, ◌∙◌, subst}
 use mathlib.Core.Bool.{Bool}
@@ -6,13 +7,12 @@ use mathlib.Core.List.{List, [], ◌∷◌}
 use native.Mathlib.Omega.{arith}
 use lib.ListN.{length, get_or, set, length-set}
 use lib.Seq.{get_or-set_other}
-use Rattle.machine.specs.declared.Walk.{Walk}
-use Rattle.machine.specs.declared.Walk.TheVariants.{Page, Failed}
 use Rattle.machine.specs.Sizes.{frame_bytes}
 use Rattle.machine.specs.Host.{Located, store_byte, stored, byte_in, bytes_behind, mark_key, marked, referenced, changed}
 use Rattle.machine.specs.Outcomes.{Effects}
 use Rattle.machine.specs.Run.{marked_by}
 use Rattle.machine.proofs.FrameBytes.{In, in_frame_lem}
+use Rattle.machine.specs.Walk.{Walk, at_frame}
 
 module _ (Q : ℕ → Type 0) where
   -- the list is as it started but for the elements at the places
@@ -51,16 +51,16 @@ module _ (Q : ℕ → Type 0) (start₁ start₂ : List ℕ) where
   }
 
 -- Through host pages that lie in the frames P.
-module _ (P : ℕ → Type 0) (behind : ℕ → Walk) (into : (a f : ℕ) (p : Bool) → behind a ≡ Page f p → P f) (start₁ start₂ : List ℕ) where
+module _ (P : ℕ → Type 0) (behind : ℕ → Walk) (into : (a f : ℕ) (p : Bool) → behind a ≡ at_frame f p → P f) (start₁ start₂ : List ℕ) where
   pub stored-alike : (ls : List Located) (s₁ s₂ : List ℕ) → Alike (In P) start₁ start₂ s₁ s₂
       → Alike (In P) start₁ start₂ (stored behind ls s₁) (stored behind ls s₂)
   unfolding stored store_byte
   stored-alike [] s₁ s₂ a = a
   stored-alike (l ∷ ls) s₁ s₂ a = stored-alike ls _ _ (go (behind l.absolute) (into l.absolute))
     where
-      go : (w : Walk) → ((f : ℕ) (p : Bool) → w ≡ Page f p → P f) → Alike (In P) start₁ start₂ (store_byte w l s₁) (store_byte w l s₂)
-      go (Failed x) h = a
-      go (Page f p) h = set-alike (In P) start₁ start₂ s₁ s₂ _ _ _ (in_frame_lem P f (l.absolute % frame_bytes) (omega arith) (h f p refl)) refl a
+      go : (w : Walk) → ((f : ℕ) (p : Bool) → w ≡ at_frame f p → P f) → Alike (In P) start₁ start₂ (store_byte w l s₁) (store_byte w l s₂)
+      go (Err x) h = a
+      go (Ok page) h = set-alike (In P) start₁ start₂ s₁ s₂ _ _ _ (in_frame_lem P page.frame (l.absolute % frame_bytes) (omega arith) (h page.frame page.protected refl)) refl a
 
   -- what stands at places is the same through these pages
   pub bytes-alike : (ls : List Located) (s₁ s₂ : List ℕ) → Alike (In P) start₁ start₂ s₁ s₂
@@ -69,18 +69,18 @@ module _ (P : ℕ → Type 0) (behind : ℕ → Walk) (into : (a f : ℕ) (p : B
   bytes-alike [] s₁ s₂ a = refl
   bytes-alike (l ∷ ls) s₁ s₂ a = λ i. go (behind l.absolute) (into l.absolute) i ∷ bytes-alike ls s₁ s₂ a i
     where
-      go : (w : Walk) → ((f : ℕ) (p : Bool) → w ≡ Page f p → P f) → byte_in w s₁ l.absolute ≡ byte_in w s₂ l.absolute
-      go (Failed x) h = refl
-      go (Page f p) h = a.inside _ (in_frame_lem P f (l.absolute % frame_bytes) (omega arith) (h f p refl))
+      go : (w : Walk) → ((f : ℕ) (p : Bool) → w ≡ at_frame f p → P f) → byte_in w s₁ l.absolute ≡ byte_in w s₂ l.absolute
+      go (Err x) h = refl
+      go (Ok page) h = a.inside _ (in_frame_lem P page.frame (l.absolute % frame_bytes) (omega arith) (h page.frame page.protected refl))
 
   marked-alike : (mark : ℕ → ℕ) (at : List ℕ) (k₁ k₂ : List ℕ) → Alike P start₁ start₂ k₁ k₂ → Alike P start₁ start₂ (marked behind mark at k₁) (marked behind mark at k₂)
   unfolding marked mark_key
   marked-alike mark [] k₁ k₂ h = h
   marked-alike mark (a ∷ more) k₁ k₂ h = marked-alike mark more _ _ (go (behind a) (into a))
     where
-      go : (w : Walk) → ((f : ℕ) (p : Bool) → w ≡ Page f p → P f) → Alike P start₁ start₂ (mark_key mark w k₁) (mark_key mark w k₂)
-      go (Failed x) i = h
-      go (Page f p) i = set-alike P start₁ start₂ k₁ k₂ f _ _ (i f p refl) (ap mark (h.inside f (i f p refl))) h
+      go : (w : Walk) → ((f : ℕ) (p : Bool) → w ≡ at_frame f p → P f) → Alike P start₁ start₂ (mark_key mark w k₁) (mark_key mark w k₂)
+      go (Err x) i = h
+      go (Ok page) i = set-alike P start₁ start₂ k₁ k₂ page.frame _ _ (i page.frame page.protected refl) (ap mark (h.inside page.frame (i page.frame page.protected refl))) h
 
   pub marked_by-alike : (e : Effects) (k₁ k₂ : List ℕ) → Alike P start₁ start₂ k₁ k₂ → Alike P start₁ start₂ (marked_by behind e k₁) (marked_by behind e k₂)
   unfolding marked_by

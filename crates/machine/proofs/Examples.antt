@@ -1,4 +1,5 @@
 -- The starred examples of document 01 and those of the table that was bad hold: specs/Examples.
+use Rattle.std.specs.Prelude.{Err, Ok}
 use Prim.Native.Nat.{ℕ, ◌+◌, ◌-◌, ◌*◌, ◌/◌, ◌%◌, ◌^◌, ◌<◌, ◌≤◌}
 use native.Mathlib.Nat.{zero-add, div-add-mod'}
 use native.Mathlib.Omega.{arith}
@@ -16,16 +17,13 @@ use Rattle.machine.specs.declared.Guest.{Guest}
 use Rattle.machine.specs.declared.Stage.TheVariants.{GuestSegment, GuestPage, HostPage}
 use Rattle.machine.specs.declared.Translated.{Translated}
 use Rattle.machine.specs.declared.Translated.TheVariants as translated
-use Rattle.machine.specs.declared.TableEntry.TheVariants.{Word, Unread}
-use Rattle.machine.specs.declared.Walk.{Walk}
-use Rattle.machine.specs.declared.Walk.TheVariants.{Page, Failed}
 use Rattle.machine.specs.Words.{bits, word_at}
 use Rattle.machine.specs.Record.{guest_of, cpu_of}
 use Rattle.machine.specs.Entry.{extent_bytes, extent_fits, prefix_fits, prefix_short, entry_good}
 use Rattle.machine.specs.Psw.{psw_bit, dat_on, condition_code, instruction_address, overflow_enabled, wrap, with_psw, with_timer, control, general, with_general, with_address, advanced, with_condition_code}
 use Rattle.machine.specs.Time.{guest_clock, comparator_due, timer_due, timer_after, charged}
 use Rattle.machine.specs.Failures.{addressing, segment_translation, page_translation, translation_specification, host_fault, exception_of, walk_exception}
-use Rattle.machine.specs.Walk.{walk_page, walk_segment, walk}
+use Rattle.machine.specs.Walk.{walk_page, walk_segment, walk, Walk, at_frame}
 use Rattle.machine.specs.Host.{Host, Cell, host_entry, in_storage, host_page, backing, in_frame, cell_of, view}
 use Rattle.machine.specs.Addresses.{prefixed, entry_of, guest_entry, format_good, real_page, settle, key_protects, in_page, access, denied}
 use Rattle.machine.specs.Outcomes.{Effects, completed, Progress}
@@ -35,6 +33,7 @@ use Rattle.machine.specs.Operations.{address_in, translated_to, translates, tran
 use Rattle.machine.specs.Examples.{Setup, StarredExamples, GuestTables, WhichTableExamples}
 use Rattle.machine.proofs.Tests.{on_either_arm}
 use Rattle.machine.proofs.Ways.{walk_by_way}
+use Rattle.machine.specs.Refusals.{Answer}
 
 -- prefix 0 exchanges nothing
 unprefixed : (g : Guest) (a : ℕ) → g.prefix ≡ 0 → prefixed g a ≡ a
@@ -46,9 +45,9 @@ unprefixed g a none = rw none (go (eqb (a / 4096) 0) refl)
     go false e = refl
 
 -- what a fetch answers by the host's page
-abbrev answered_by : List ℕ → Host → ℕ → Walk → Translated
-answered_by r h a (Failed f) = translated.Failed f (sought (guest_of r) h (cpu_of r) a f)
-answered_by r h a (Page frame protected) = translated.Address (in_frame frame a)
+abbrev answered_by : List ℕ → Host → ℕ → Walk → Answer Translated
+answered_by r h a (Err f) = Ok (translated.Failed f (sought (guest_of r) h (cpu_of r) a f))
+answered_by r h a (Ok page) = Ok (translated.Address (in_frame page.frame a))
 
 module _ (r : List ℕ) (h : Host) (s : Setup r h) where
   entry-good : entry_good (guest_of r) ≡ true
@@ -68,12 +67,12 @@ module _ (r : List ℕ) (h : Host) (s : Setup r h) where
     where
       go : (w : Walk) → backing (guest_of r) h a ≡ w
           → translated_to (guest_of r) h (cpu_of r) a (settle (guest_of r) false (key_protects (cpu_of r) false) a (cell_of h a w)) ≡ answered_by r h a w
-      go (Failed f) e = refl
-      go (Page frame protected) e = rw (s.key, e)
+      go (Err f) e = refl
+      go (Ok page) e = rw (s.key, e)
 
   -- in the one block of the guest, the word of the page's entry decides
   backed_in_block : (a w : ℕ) → a < 65536 → word_at h.storage (8192 + a / 4096 * 4) ≡ w
-      → backing (guest_of r) h a ≡ in_storage h.storage a (walk_page (host_fault a) (Word w))
+      → backing (guest_of r) h a ≡ in_storage h.storage a (walk_page (host_fault a) (Ok w))
   unfolding backing host_page walk walk_segment host_entry
   backed_in_block a w inside word =
       let segment : a / 1048576 ≡ 0 = omega arith in
@@ -83,11 +82,11 @@ module _ (r : List ℕ) (h : Host) (s : Setup r h) where
       rw (s.extent, s.origin, lt-ltb, zero-add, s.designation, segment, s.frames, s.segment, page, row, le-leb, word)
 
   fetched_in_block : (a w : ℕ) → a < 65536 → word_at h.storage (8192 + a / 4096 * 4) ≡ w
-      → translate r h a 0 ≡ answered_by r h a (in_storage h.storage a (walk_page (host_fault a) (Word w)))
+      → translate r h a 0 ≡ answered_by r h a (in_storage h.storage a (walk_page (host_fault a) (Ok w)))
   fetched_in_block a w inside word = fetched a (omega arith) ∙ ap (answered_by r h a) (backed_in_block a w inside word)
 
   -- page 0 stands in frame 3
-  fetched_from_page_0 : (a : ℕ) → a < 4096 → translate r h a 0 ≡ translated.Address (3 * 4096 + a % 4096)
+  fetched_from_page_0 : (a : ℕ) → a < 4096 → translate r h a 0 ≡ Ok (translated.Address (3 * 4096 + a % 4096))
   unfolding in_storage walk_page
   fetched_from_page_0 a inside =
       let page : a / 4096 ≡ 0 = omega arith in
@@ -106,24 +105,24 @@ module _ (r : List ℕ) (h : Host) (s : Setup r h) where
   unfolding end_sought
   end_of-run = fault_at_4096
 
-  fetch_at_4096 : translate r h 4096 0 ≡ translated.Failed (host_fault 4096 page_translation) (record { stage = HostPage; entry = 0x2004 })
+  fetch_at_4096 : translate r h 4096 0 ≡ Ok (translated.Failed (host_fault 4096 page_translation) (record { stage = HostPage; entry = 0x2004 }))
   unfolding in_storage walk_page
   fetch_at_4096 =
       fetched_in_block 4096 0x0400 (omega arith) s.page_after
-      ∙ ap (translated.Failed (host_fault 4096 page_translation)) (behind_any_address_lem (guest_of r) (cpu_of r) 4096)
+      ∙ ap (λ s. Ok (translated.Failed (host_fault 4096 page_translation) s)) (behind_any_address_lem (guest_of r) (cpu_of r) 4096)
 
   frame_beyond_storage_lem : word_at h.storage 8200 ≡ 0x8000
-      → translate r h 8192 0 ≡ translated.Failed (host_fault 8192 addressing) (record { stage = HostPage; entry = 0x2008 })
+      → translate r h 8192 0 ≡ Ok (translated.Failed (host_fault 8192 addressing) (record { stage = HostPage; entry = 0x2008 }))
   unfolding in_storage walk_page sought fault_sought host_sought host_sought_by way way_of_segment way_of_page host_entry
   frame_beyond_storage_lem word =
       rw (fetched_in_block 8192 0x8000 (omega arith) word) (simp (s.designation, s.frames, s.segment, word))
 
-  fetch_at_65536 : translate r h 65536 0 ≡ translated.Failed (exception_of addressing) nowhere
+  fetch_at_65536 : translate r h 65536 0 ≡ Ok (translated.Failed (exception_of addressing) nowhere)
   unfolding backing sought exception_sought guest_sought
   fetch_at_65536 = rw (fetched 65536 (omega arith), s.extent, s.dat_off)
 
 -- a guest table entry past the extent
-entry_past : (g : Guest) (h : Host) (real : ℕ) → extent_bytes g ≤ prefixed g real → guest_entry g (view g h) real ≡ Unread (exception_of addressing)
+entry_past : (g : Guest) (h : Host) (real : ℕ) → extent_bytes g ≤ prefixed g real → guest_entry g (view g h) real ≡ Err (exception_of addressing)
 unfolding guest_entry entry_of view cell_of backing
 entry_past g h real past = rw (le-ltb (prefixed g real) (extent_bytes g) past)
 
@@ -133,17 +132,17 @@ module _ (g : Guest) (h : Host) (c : Cpu) where
     unfolding sought exception_sought guest_sought guest_sought_by way walk_exception
     segment_past = simp (t.dat, t.format, t.designation)
 
-    segment_invalid_lem : guest_entry g (view g h) 0x1004 ≡ Word 0x20
+    segment_invalid_lem : guest_entry g (view g h) 0x1004 ≡ Ok 0x20
         → sought g h c 0x00100000 (walk_exception 0x00100000 segment_translation) ≡ record { stage = GuestSegment; entry = 0x1004 }
     unfolding sought exception_sought guest_sought guest_sought_by way way_of_segment walk_exception
     segment_invalid_lem segment = simp (t.dat, t.format, t.designation, segment)
 
-    page_past : guest_entry g (view g h) 0x1000 ≡ Word 0x2000
+    page_past : guest_entry g (view g h) 0x1000 ≡ Ok 0x2000
         → sought g h c 0x00010000 (walk_exception 0x00010000 page_translation) ≡ record { stage = GuestPage; entry = 0 }
     unfolding sought exception_sought guest_sought guest_sought_by way way_of_segment walk_exception
     page_past segment = simp (t.dat, t.format, t.designation, segment)
 
-    page_invalid_lem : guest_entry g (view g h) 0x1000 ≡ Word 0x2000 → guest_entry g (view g h) 0x2004 ≡ Word 0x0400
+    page_invalid_lem : guest_entry g (view g h) 0x1000 ≡ Ok 0x2000 → guest_entry g (view g h) 0x2004 ≡ Ok 0x0400
         → sought g h c 0x1000 (walk_exception 0x1000 page_translation) ≡ record { stage = GuestPage; entry = 0x2004 }
     unfolding sought exception_sought guest_sought guest_sought_by way way_of_segment way_of_page walk_exception
     page_invalid_lem segment page = simp (t.dat, t.format, t.designation, segment, page)
@@ -152,7 +151,7 @@ module _ (g : Guest) (h : Host) (c : Cpu) where
     unfolding sought exception_sought guest_sought guest_sought_by way way_of_segment
     segment_past_extent_lem past = simp (t.dat, t.format, t.designation, entry_past g h 0x1000 past)
 
-    page_past_extent_lem : guest_entry g (view g h) 0x1000 ≡ Word 0x2000 → extent_bytes g ≤ prefixed g 0x2000
+    page_past_extent_lem : guest_entry g (view g h) 0x1000 ≡ Ok 0x2000 → extent_bytes g ≤ prefixed g 0x2000
         → sought g h c 0 (exception_of addressing) ≡ record { stage = GuestPage; entry = 0 }
     unfolding sought exception_sought guest_sought guest_sought_by way way_of_segment way_of_page
     page_past_extent_lem segment past = simp (t.dat, t.format, t.designation, segment, entry_past g h 0x2000 past)
@@ -162,18 +161,18 @@ module _ (g : Guest) (h : Host) (c : Cpu) where
   bad_format_lem a bad = rw bad (on_either_arm (λ x. x ≡ nowhere) (not (dat_on c)) refl refl)
 
   -- tables that led to a page are not what was bad
-  final_past_extent_lem : (a frame : ℕ) (protected : Bool) → real_page g (view g h) c a ≡ Page frame protected
+  final_past_extent_lem : (a frame : ℕ) (protected : Bool) → real_page g (view g h) c a ≡ at_frame frame protected
       → sought g h c a (exception_of addressing) ≡ nowhere
   unfolding sought exception_sought guest_sought guest_sought_by found_by real_page
   final_past_extent_lem a frame protected is = by_tests (not (dat_on c)) (not (format_good c)) is
     where
-      by_way : (w : Way) → found_by (walk_exception a) w ≡ Page frame protected → guest_sought_by w ≡ nowhere
+      by_way : (w : Way) → found_by (walk_exception a) w ≡ at_frame frame protected → guest_sought_by w ≡ nowhere
       by_way (leads at p) e = refl
       by_way (stops table at code) e = let z : ◌≡◌ {A = ℕ} 0 1 = cc in absurd (omega arith)
       by_way (unread table f) e = let z : ◌≡◌ {A = ℕ} 0 1 = cc in absurd (omega arith)
 
       by_tests : (b b' : Bool)
-          → cond b (Page (a / 4096) false) (cond b' (Failed (exception_of translation_specification)) (walk (guest_entry g (view g h)) (walk_exception a) (control c 1) a)) ≡ Page frame protected
+          → cond b (at_frame (a / 4096) false) (cond b' (Err (exception_of translation_specification)) (walk (guest_entry g (view g h)) (walk_exception a) (control c 1) a)) ≡ at_frame frame protected
           → cond b nowhere (cond b' nowhere (guest_sought_by (way (guest_entry g (view g h)) (control c 1) a))) ≡ nowhere
       by_tests true b' e = refl
       by_tests false true e = refl

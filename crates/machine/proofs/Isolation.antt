@@ -1,10 +1,10 @@
 -- DEMAND 3: the proof of `Isolation`.
+use Rattle.std.specs.Prelude.{Err, Ok}
 use Prim.Native.Nat.{ℕ, ◌+◌, ◌*◌}
 use mathlib.Core.Path.{◌≡◌, refl, sym, ap, ◌∙◌}
 use mathlib.Core.Bool.{Bool, true, false, cond, ◌&&◌}
 use mathlib.Core.List.{List}
 use mathlib.Core.Logic.{◌↔◌}
-use Rattle.machine.specs.declared.Answer.TheVariants as answer
 use Rattle.machine.specs.declared.Cpu.{Cpu}
 use Rattle.machine.specs.declared.End.{End}
 use Rattle.machine.specs.declared.End.TheVariants.{Intercepted, HostFault, BudgetUsed}
@@ -13,11 +13,9 @@ use Rattle.machine.specs.declared.Guest.{Guest}
 use Rattle.machine.specs.declared.Numbers.{Numbers}
 use Rattle.machine.specs.declared.Reason.TheVariants.{Validity}
 use Rattle.machine.specs.declared.Translated.TheVariants as translated
-use Rattle.machine.specs.declared.Verdict.{Verdict}
-use Rattle.machine.specs.declared.Verdict.TheVariants.{Accepted, Refused}
 use Rattle.machine.specs.Record.{guest_of, cpu_of, with_results}
 use Rattle.machine.specs.Sizes.{frame_bytes}
-use Rattle.machine.specs.Refusals.{wrong_storage, wrong_keys, translate_verdict, run_verdict}
+use Rattle.machine.specs.Refusals.{wrong_storage, wrong_keys, translate_verdict, run_verdict, Verdict, no_refusal}
 use Rattle.machine.specs.Entry.{entry_good}
 use Rattle.machine.specs.Host.{Host, host, backing, view}
 use Rattle.machine.specs.Frames.{GuestFrame}
@@ -25,7 +23,7 @@ use Rattle.machine.specs.Addresses.{Access, reached, denied, access}
 use Rattle.machine.specs.Sought.{exception_sought, sought, end_sought}
 use Rattle.machine.specs.Run.{Machine, Ended, run}
 use Rattle.machine.specs.Operations.{address_in, translated_to, translates, translated_as, translate, Result, result_of, machine_of, run_as, run_of}
-use Rattle.machine.specs.Answers.{end_results}
+use Rattle.machine.specs.Answers.{end_results, run_answer}
 use Rattle.machine.specs.Isolation.{RunFrame, Agree, Isolation}
 use Rattle.machine.specs.IsolationOfAnswers.{TranslationsAgree, IsolationOfTranslations}
 use Rattle.machine.proofs.Laws.{guest_of-with_results}
@@ -57,7 +55,7 @@ module _ (n : Numbers) (r s₁ k₁ s₂ k₂ : List ℕ) where
       → SameResult (result_of n e₁) (result_of n e₂)
   unfolding result_of
   result_of_same_end e₁ e₂ s table = record {
-    answer = λ i. answer.Ended (s.end i) (s.units i);
+    answer = λ i. run_answer (s.end i) (s.units i);
     table = table;
     description = λ i. with_results (end_results (s.end i)) (s.machine.description i);
     storage = s.machine.storage;
@@ -96,7 +94,7 @@ module _ (n : Numbers) (r s₁ k₁ s₂ k₂ : List ℕ) where
     }
 
     -- two runs from there name the same table
-    same_table_of_ends : run_verdict n r s₁ k₁ ≡ Accepted → entry_good (guest_of r) ≡ true → (b : ℕ) (m₁ m₂ : Machine)
+    same_table_of_ends : run_verdict n r s₁ k₁ ≡ no_refusal → entry_good (guest_of r) ≡ true → (b : ℕ) (m₁ m₂ : Machine)
         → Twins n r s₁ k₁ s₂ k₂ m₁ m₂ → SameEnd n r s₁ k₁ s₂ k₂ (run b n m₁) (run b n m₂)
         → end_sought n.designation (run b n m₁).machine.storage (run b n m₁).end
         ≡ end_sought n.designation (run b n m₂).machine.storage (run b n m₂).end
@@ -113,14 +111,14 @@ module _ (n : Numbers) (r s₁ k₁ s₂ k₂ : List ℕ) where
 
     result_by_verdict : (v : Verdict) → run_verdict n r s₁ k₁ ≡ v → SameResult (run_as n r s₁ k₁ v) (run_as n r s₂ k₂ v)
     unfolding run_as end_sought
-    result_by_verdict (Refused number) e = record {
+    result_by_verdict (Err number) e = record {
       answer = refl;
       table = refl;
       description = refl;
       storage = start_storage;
       keys = start-keys;
     }
-    result_by_verdict Accepted accepted = go (entry_good (guest_of r)) refl
+    result_by_verdict (Ok _) accepted = go (entry_good (guest_of r)) refl
       where
         go : (b : Bool) → entry_good (guest_of r) ≡ b
             → SameResult (cond b (result_of n (run n.budget n (machine_of n r s₁ k₁))) (result_of n (not_entered (machine_of n r s₁ k₁))))
@@ -167,7 +165,7 @@ same_frames n r s₁ k₁ s₂ k₂ agree f = (
     verdict : run_verdict n r s₁ k₁ ≡ run_verdict n r s₂ k₂
     verdict = same_verdict n r s₁ k₁ s₂ k₂ agree
 
-    pages : run_verdict n r s₁ k₁ ≡ Accepted → entry_good (guest_of r) ≡ true
+    pages : run_verdict n r s₁ k₁ ≡ no_refusal → entry_good (guest_of r) ≡ true
         → backing (guest_of r) (host n.designation s₁ k₁) ≡ backing (guest_of r) (host n.designation s₂ k₂)
     pages accepted good = same_backing (guest_of r) n.designation s₁ s₂ (same_start n r s₁ k₁ s₂ k₂ agree accepted) good k₁ k₂
 
@@ -175,11 +173,11 @@ same_frames n r s₁ k₁ s₂ k₂ agree f = (
 same_translated : (g : Guest) (h₁ h₂ : Host) (c : Cpu) (a : ℕ) → backing g h₁ ≡ backing g h₂ → (x : Access)
     → ((f : Failure) → x ≡ denied f → sought g h₁ c a f ≡ sought g h₂ c a f) → translated_to g h₁ c a x ≡ translated_to g h₂ c a x
 unfolding translated_to
-same_translated g h₁ h₂ c a pages (denied f) tables = ap (translated.Failed f) (tables f refl)
+same_translated g h₁ h₂ c a pages (denied f) tables = ap (λ s. Ok (translated.Failed f s)) (tables f refl)
 same_translated g h₁ h₂ c a pages (reached l) tables = ap (λ behind. address_in l.absolute (behind l.absolute)) pages
 
 module _ (r : List ℕ) (kind d : ℕ) (s₁ k₁ s₂ k₂ : List ℕ) (agree : TranslationsAgree r kind d s₁ k₁ s₂ k₂) where
-  module _ (accepted : translate_verdict r s₁ k₁ kind ≡ Accepted) (good : entry_good (guest_of r) ≡ true) where
+  module _ (accepted : translate_verdict r s₁ k₁ kind ≡ no_refusal) (good : entry_good (guest_of r) ≡ true) where
     entries : SameEntries (guest_of r) d s₁ s₂
     entries = record { lengths = agree.lengths.0; entries = agree.entries accepted }
 
@@ -201,8 +199,8 @@ module _ (r : List ℕ) (kind d : ℕ) (s₁ k₁ s₂ k₂ : List ℕ) (agree :
 
   same_translation : (a : ℕ) (v : Verdict) → translate_verdict r s₁ k₁ kind ≡ v → translated_as r (host d s₁ k₁) a kind v ≡ translated_as r (host d s₂ k₂) a kind v
   unfolding translated_as
-  same_translation a (Refused number) e = refl
-  same_translation a Accepted accepted =
+  same_translation a (Err number) e = refl
+  same_translation a (Ok _) accepted =
       same_test (entry_good (guest_of r) && translates (cpu_of r))
       (λ both.
       let good = first (entry_good (guest_of r)) _ both in

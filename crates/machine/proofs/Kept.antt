@@ -7,7 +7,6 @@ use mathlib.Core.Bool.{Bool, true, false, false≢true}
 use mathlib.Core.List.{List}
 use mathlib.Core.Logic.{◌⊎◌, inl, inr, ⊎_elim}
 use lib.ListN.{length}
-use Rattle.machine.specs.declared.Answer.TheVariants.{Ended}
 use Rattle.machine.specs.declared.Cpu.{Cpu}
 use Rattle.machine.specs.declared.End.{End}
 use Rattle.machine.specs.declared.End.TheVariants.{Intercepted, BudgetUsed}
@@ -21,11 +20,11 @@ use Rattle.machine.specs.Refusals.{most_time}
 use Rattle.machine.specs.Outcomes.{Effects, completed, intercepted}
 use Rattle.machine.specs.Run.{Machine, unit_from, behind_of, marked_by, after_unit, after_interception, clears_t, answered, with_tick, with_word, Step, goes, ends, step, run}
 use Rattle.machine.specs.Operations.{Result, result_of, machine_of, run_of}
-use Rattle.machine.specs.Answers.{end_results}
+use Rattle.machine.specs.Answers.{end_results, run_answer}
 use Rattle.machine.specs.Theorems.{LengthsKept, BytesKept, MarksAreTheUnits, UnitsWithinBudget}
 use Rattle.machine.proofs.Laws.{length-with_cpu, length-with_results, length-with_request, length-with_interval, byte_of-with_cpu, byte_of-with_results, byte_of-with_request, byte_of-with_interval, guest_of-bytes, guest_of-with_cpu, guest_of-with_results, length-end_results}
 use Rattle.machine.proofs.Ticks.{Update, still, rises, fell, update_keeps, answered_same, requested_active, InRange, update_in_range, residue_of-with_cpu, residue_of-with_request, residue_of-with_results}
-use Rattle.machine.proofs.Runs.{stored-length, marked_by-length, exit_keeps, step_cases, left_by_lem, run_keeps_steps, run_keeps, units_within, run_of_cases}
+use Rattle.machine.proofs.Runs.{stored-length, marked_by-length, exit_keeps, step_cases, left_by_lem, run_keeps_steps, run_keeps, units_within, same_units, run_of_cases}
 use Rattle.machine.proofs.Timer.{asked_for}
 
 -- where the record of a machine has a property that with_cpu, with_results, with_interval and with_request keep, so has the record that a run
@@ -209,6 +208,6 @@ marks_are_the_units n m next c e is goes_on =
 pub units_within_budget : UnitsWithinBudget
 unfolding result_of
 units_within_budget n r storage keys end units =
-    run_of_cases n r storage keys (λ (result : Result). result.answer ≡ Ended end units → units ≤ n.budget) (λ number e a. let z : ◌≡◌ {A = ℕ} 0 1 = cc in omega arith)
-    (λ e g a. let none : units ≡ 0 = cc in omega arith)
-    (λ e g a. let same : (run n.budget n (machine_of n r storage keys)).units ≡ units = cc in omega (arith, units_within n.budget n (machine_of n r storage keys)))
+    run_of_cases n r storage keys (λ (result : Result). result.answer ≡ run_answer end units → units ≤ n.budget) (λ number e a. let z : ◌≡◌ {A = ℕ} 0 1 = cc in omega arith)
+    (λ e g a. let none : 0 ≡ units = same_units a in omega arith)
+    (λ e g a. let same : (run n.budget n (machine_of n r storage keys)).units ≡ units = same_units a in omega (arith, units_within n.budget n (machine_of n r storage keys)))

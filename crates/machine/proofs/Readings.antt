@@ -13,7 +13,6 @@ use Rattle.machine.specs.declared.Cpu.{Cpu}
 use Rattle.machine.specs.declared.Guest.{Guest}
 use Rattle.machine.specs.declared.Numbers.{Numbers}
 use Rattle.machine.specs.declared.Reason.{Reason}
-use Rattle.machine.specs.declared.Verdict.TheVariants.{Accepted}
 use Rattle.machine.specs.Words.{double_at, double_bytes}
 use Rattle.machine.specs.Record.{guest_of, cpu_of}
 use Rattle.machine.specs.Psw.{instruction_address, malformed, with_condition_code}
@@ -26,7 +25,7 @@ use Rattle.machine.specs.Interruptions.{with_bytes, bytes_of}
 use Rattle.machine.specs.Execute.{address_part, operand_address, next, finish, storing, store_clock, execute}
 use Rattle.machine.specs.Units.{intercepts, misaligned, decoded, halfword, half_of, reading, fetch_third, fetch_second, instruction, unit}
 use Rattle.machine.specs.Run.{Machine, Step, goes, ends, step, counted, onward, unit_from, run}
-use Rattle.machine.specs.Refusals.{most_units, most_time, run_verdict}
+use Rattle.machine.specs.Refusals.{most_units, most_time, run_verdict, no_refusal}
 use Rattle.machine.specs.Operations.{Result, result_of, machine_of, run_of}
 use Rattle.machine.specs.Readings.{begun, with_first, with_second, StoresClock, before_unit, ReadingsAreTheGuestClock, TwoReadingsDiffer}
 use Rattle.machine.specs.Courses.{units_in}
@@ -161,7 +160,7 @@ module _ (n : Numbers) (r storage keys : List ℕ) where
 
   -- a run that counts units was accepted, and they are the definition's
   abbrev Ran : ℕ → Result → Type 0
-  Ran i result = i < units_in result.answer → (run_verdict n r storage keys ≡ Accepted) × (units_in result.answer ≡ (run n.budget n start).units)
+  Ran i result = i < units_in result.answer → (run_verdict n r storage keys ≡ no_refusal) × (units_in result.answer ≡ (run n.budget n start).units)
 
   ran : (i : ℕ) → Ran i (run_of n r storage keys)
   unfolding result_of

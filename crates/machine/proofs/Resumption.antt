@@ -7,27 +7,26 @@ use borrow.Author.Tests.{lt-leb}
 use mathlib.Core.Bool.{true}
 use mathlib.Core.List.{List}
 use mathlib.Core.Logic.{inl, inr}
-use Rattle.machine.specs.declared.Answer.TheVariants.{Ended}
 use Rattle.machine.specs.declared.Cpu.{Cpu}
 use Rattle.machine.specs.declared.End.{End}
 use Rattle.machine.specs.declared.End.TheVariants.{Intercepted, HostFault, BudgetUsed}
+use Rattle.machine.specs.declared.Reason.TheVariants.{Validity}
 use Rattle.machine.specs.declared.Failure.{Failure}
 use Rattle.machine.specs.declared.Numbers.{Numbers}
-use Rattle.machine.specs.declared.Verdict.TheVariants.{Accepted}
 use Rattle.machine.specs.Record.{guest_of, with_cpu, with_results, residue_of, with_request, with_interval}
 use Rattle.machine.specs.Interval.{period}
-use Rattle.machine.specs.Refusals.{most_units, most_time, run_verdict}
+use Rattle.machine.specs.Refusals.{most_units, most_time, run_verdict, no_refusal}
 use Rattle.machine.specs.Entry.{entry_good}
 use Rattle.machine.specs.Time.{clock_after}
 use Rattle.machine.specs.Outcomes.{Outcome, completed, intercepted, faulted}
 use Rattle.machine.specs.Run.{Machine, Ended as Run, host_of, unit_from, behind_of, after_unit, with_tick, with_word, word_accesses, word_in, residue_from, risen_to, fallen_to, ticked, Step, goes, ends, step_of, step, counted, onward, run}
 use Rattle.machine.specs.Operations.{Result, result_of, machine_of, run_as, run_of}
-use Rattle.machine.specs.Answers.{end_results}
+use Rattle.machine.specs.Answers.{end_results, run_answer}
 use Rattle.machine.specs.Theorems.{with_budget, resumed_with, resumed_from, Resumption, HostFaultUndoesItsUnit}
 use Rattle.machine.proofs.Laws.{length-end_results, with_results-with_cpu, with_results-with_results, with_results-with_request, with_results-with_interval}
 use Rattle.machine.proofs.Verdicts.{accepted_budget, accepted_time, accepted-residue, SameInterval, verdict_of_same, verdict_of_budget}
 use Rattle.machine.proofs.Ticks.{update_keeps}
-use Rattle.machine.proofs.Runs.{exit_keeps, step_cases, run_keeps, units_within, continued, run-add, run_of_cases}
+use Rattle.machine.proofs.Runs.{exit_keeps, step_cases, run_keeps, units_within, continued, run-add, same_end, same_units, run_of_cases}
 use Rattle.machine.proofs.Kept.{lengths_kept, bytes_kept, guest_left, residue_in_range}
 
 -- a run goes by designation and time alone, beside its machine and its budget
@@ -105,13 +104,13 @@ unfolding machine_of
 start-cleared n r storage keys = with_results-with_results _ _ r refl
 
 -- a run that is accepted and has a good entry
-run_of_budget : (n : Numbers) (a : ℕ) (r storage keys : List ℕ) → run_verdict (with_budget n a) r storage keys ≡ Accepted → entry_good (guest_of r) ≡ true
+run_of_budget : (n : Numbers) (a : ℕ) (r storage keys : List ℕ) → run_verdict (with_budget n a) r storage keys ≡ no_refusal → entry_good (guest_of r) ≡ true
     → run_of (with_budget n a) r storage keys ≡ result_of n (run a n (machine_of n r storage keys))
 unfolding run_of run_as machine_of result_of
 run_of_budget n a r storage keys accepted good = rw (accepted, good) (ap (result_of n) (run_renumbered a n _ a _))
 
 module _ (n : Numbers) (a b : ℕ) (r storage keys : List ℕ) (small : n.clock < 2 ^ 64) (limit : a + b ≤ most_units)
-    (accepted : run_verdict (with_budget n a) r storage keys ≡ Accepted) (good : entry_good (guest_of r) ≡ true) where
+    (accepted : run_verdict (with_budget n a) r storage keys ≡ no_refusal) (good : entry_good (guest_of r) ≡ true) where
   start : Machine
   start = machine_of n r storage keys
 
@@ -122,7 +121,7 @@ module _ (n : Numbers) (a b : ℕ) (r storage keys : List ℕ) (small : n.clock 
   unfolding first start
   first_run = run_of_budget n a r storage keys accepted good
 
-  accepted_again : run_verdict (resumed_with n a b) first.description first.storage first.keys ≡ Accepted
+  accepted_again : run_verdict (resumed_with n a b) first.description first.storage first.keys ≡ no_refusal
   unfolding first
   accepted_again =
       verdict_of_same (resumed_with n a b) (with_budget n a) _ r _ storage _ keys (lengths_kept.of_record (with_budget n a) r storage keys)
@@ -194,7 +193,7 @@ module _ (n : Numbers) (a b : ℕ) (r storage keys : List ℕ) (small : n.clock 
           ap (λ (x : End). result_of n (record { end = x; units = (run a n start).units; machine = (run a n start).machine })) (sym is) ∙ sym first_run
 
       by_end : (e : End) → (run a n start).end ≡ e
-          → result_of n (continued b n (run a n start).machine (run a n start).units e) ≡ resumed_from n a b first (Ended e (run a n start).units)
+          → result_of n (continued b n (run a n start).machine (run a n start).units e) ≡ resumed_from n a b first (run_answer e (run a n start).units)
       by_end (Intercepted reason) is = same_end (Intercepted reason) is
       by_end (HostFault f) is = same_end (HostFault f) is
       by_end BudgetUsed is = rw (second_run is)
@@ -230,21 +229,21 @@ pub host_fault_undoes_its_unit : HostFaultUndoesItsUnit
 unfolding result_of end_results
 host_fault_undoes_its_unit n r storage keys f units =
     run_of_cases n r storage keys
-    (λ (result : Result). result.answer ≡ Ended (HostFault f) units
+    (λ (result : Result). result.answer ≡ run_answer (HostFault f) units
     → (result.description ≡ (run_of (with_budget n units) r storage keys).description)
     × (result.storage ≡ (run_of (with_budget n units) r storage keys).storage)
     × (result.keys ≡ (run_of (with_budget n units) r storage keys).keys))
     (λ number e a. (cc, cc, cc))
-    (λ e g a. (cc, cc, cc))
+    (λ e g a. let ends : ◌≡◌ {A = End} (Intercepted Validity) (HostFault f) = same_end a in (cc, cc, cc))
     λ e g a.
-    let fault : whole.end ≡ HostFault f = cc in
-    let same : units ≡ whole.units = cc in
+    let fault : whole.end ≡ HostFault f = same_end a in
+    let same : units ≡ whole.units = sym (same_units a) in
     rw (same, cut e g fault, fault) (refl, refl, refl)
   where
     whole : Run
     whole = run n.budget n (machine_of n r storage keys)
 
-    cut : run_verdict n r storage keys ≡ Accepted → entry_good (guest_of r) ≡ true → whole.end ≡ HostFault f
+    cut : run_verdict n r storage keys ≡ no_refusal → entry_good (guest_of r) ≡ true → whole.end ≡ HostFault f
         → run_of (with_budget n whole.units) r storage keys ≡ result_of n (record { end = BudgetUsed; units = whole.units; machine = whole.machine })
     cut e g fault =
         run_of_budget n whole.units r storage keys

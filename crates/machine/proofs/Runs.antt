@@ -1,5 +1,6 @@
 -- Laws of the run: what every unit keeps, a run keeps; what a run of a + b units is.
 -- Assumes nothing.
+use Rattle.std.specs.Prelude.{Err, Ok}
 use Prim.Native.Nat.{ℕ, zero, suc, ◌+◌, ◌≤◌, suc-le-suc}
 use native.Mathlib.Omega.{arith}
 use native.Mathlib.Nat.{suc-add, zero-add}
@@ -7,20 +8,17 @@ use mathlib.Core.Path.{◌≡◌, refl, ap, ◌∙◌}
 use mathlib.Core.Bool.{Bool, true, false, cond}
 use mathlib.Core.List.{List, [], ◌∷◌, ◌++◌}
 use lib.ListN.{length, length-set}
-use Rattle.machine.specs.declared.Answer.TheVariants as answer
 use Rattle.machine.specs.declared.Cpu.{Cpu}
 use Rattle.machine.specs.declared.End.{End}
 use Rattle.machine.specs.declared.End.TheVariants.{Intercepted, HostFault, BudgetUsed}
 use Rattle.machine.specs.declared.Failure.{Failure}
 use Rattle.machine.specs.declared.Numbers.{Numbers}
 use Rattle.machine.specs.declared.Reason.{Reason}
+use Rattle.machine.specs.declared.Refusal.{Refusal}
 use Rattle.machine.specs.declared.Reason.TheVariants.{Validity}
-use Rattle.machine.specs.declared.Verdict.{Verdict}
-use Rattle.machine.specs.declared.Verdict.TheVariants.{Accepted, Refused}
-use Rattle.machine.specs.declared.Walk.{Walk}
-use Rattle.machine.specs.declared.Walk.TheVariants.{Page, Failed}
 use Rattle.machine.specs.Record.{guest_of, with_cpu, with_request}
-use Rattle.machine.specs.Refusals.{run_verdict}
+use Rattle.machine.specs.Refusals.{run_verdict, RunAnswer, Verdict, no_refusal}
+use Rattle.machine.specs.Answers.{run_answer}
 use Rattle.machine.specs.Entry.{entry_good}
 use Rattle.machine.specs.Host.{Located, store_byte, stored, mark_key, marked, referenced, changed, places}
 use Rattle.machine.specs.Addresses.{stopped}
@@ -29,13 +27,14 @@ use Rattle.machine.specs.Outcomes.{Effects, Outcome, completed, intercepted, fau
 use Rattle.machine.specs.Run.{Machine, Ended, unit_from, marked_by, after_unit, after_interception, answered, with_tick, with_word, word_accesses, Step, goes, ends, step_of, step, counted, onward, run}
 use Rattle.machine.specs.Operations.{Result, result_of, machine_of, run_as, run_of}
 use Rattle.machine.proofs.Ticks.{Update, ticked_cases, update_keeps, answered_keeps}
+use Rattle.machine.specs.Walk.{Walk}
 
 -- lengths
 
 store_byte-length : (w : Walk) (l : Located) (s : List ℕ) → length (store_byte w l s) ≡ length s
 unfolding store_byte
-store_byte-length (Failed f) l s = refl
-store_byte-length (Page frame protected) l s = length-set s _ l.byte
+store_byte-length (Err f) l s = refl
+store_byte-length (Ok page) l s = length-set s _ l.byte
 
 pub stored-length : (behind : ℕ → Walk) (ls : List Located) (s : List ℕ) → length (stored behind ls s) ≡ length s
 unfolding stored
@@ -44,8 +43,8 @@ stored-length behind (l ∷ ls) s = stored-length behind ls _ ∙ store_byte-len
 
 mark_key-length : (mark : ℕ → ℕ) (w : Walk) (k : List ℕ) → length (mark_key mark w k) ≡ length k
 unfolding mark_key
-mark_key-length mark (Failed f) k = refl
-mark_key-length mark (Page frame protected) k = length-set k frame _
+mark_key-length mark (Err f) k = refl
+mark_key-length mark (Ok page) k = length-set k page.frame _
 
 pub marked-length : (behind : ℕ → Walk) (mark : ℕ → ℕ) (places k : List ℕ) → length (marked behind mark places k) ≡ length k
 unfolding marked
@@ -163,17 +162,33 @@ run-add (suc a) b n m = rw suc-add (by_step (λ k. run-add a b n k) (step_ends n
     by_step later exits = refl
     by_step later faults = refl
 
+-- two answers of a run that are one have one end and as many units
+
+pub same_end : {e e' : End} {u u' : ℕ} → run_answer e u ≡ run_answer e' u' → e ≡ e'
+same_end e = ap end_or e
+  where
+    end_or : RunAnswer → End
+    end_or (Ok s) = s.end
+    end_or (Err refusal) = BudgetUsed
+
+pub same_units : {e e' : End} {u u' : ℕ} → run_answer e u ≡ run_answer e' u' → u ≡ u'
+same_units e = ap units_or e
+  where
+    units_or : RunAnswer → ℕ
+    units_or (Ok s) = s.units
+    units_or (Err refusal) = 0
+
 -- the run operation, by cases: refused, entry failing, running
 module _ (n : Numbers) (r storage keys : List ℕ) (P : Result → Type 0)
-    (refused : (number : ℕ) → run_verdict n r storage keys ≡ Refused number
-    → P (record { answer = answer.Refused number; table = nowhere; description = r; storage = storage; keys = keys }))
-    (failing : run_verdict n r storage keys ≡ Accepted → entry_good (guest_of r) ≡ false
+    (refused : (refusal : Refusal) → run_verdict n r storage keys ≡ Err refusal
+    → P (record { answer = Err refusal; table = nowhere; description = r; storage = storage; keys = keys }))
+    (failing : run_verdict n r storage keys ≡ no_refusal → entry_good (guest_of r) ≡ false
     → P (result_of n (record { end = Intercepted Validity; units = 0; machine = machine_of n r storage keys })))
-    (running : run_verdict n r storage keys ≡ Accepted → entry_good (guest_of r) ≡ true → P (result_of n (run n.budget n (machine_of n r storage keys)))) where
+    (running : run_verdict n r storage keys ≡ no_refusal → entry_good (guest_of r) ≡ true → P (result_of n (run n.budget n (machine_of n r storage keys)))) where
   by_verdict : (v : Verdict) → run_verdict n r storage keys ≡ v → P (run_as n r storage keys v)
   unfolding run_as
-  by_verdict (Refused number) e = refused number e
-  by_verdict Accepted e = by_entry (entry_good (guest_of r)) refl
+  by_verdict (Err number) e = refused number e
+  by_verdict (Ok _) e = by_entry (entry_good (guest_of r)) refl
     where
       by_entry : (b : Bool) → entry_good (guest_of r) ≡ b
           → P (cond b (result_of n (run n.budget n (machine_of n r storage keys)))

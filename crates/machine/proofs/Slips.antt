@@ -1,5 +1,6 @@
 -- The slips that document 01 names are not in the definition.
 -- Assumes nothing.
+use Rattle.std.specs.Prelude.{Err, Ok}
 use Prim.Native.Nat.{ℕ, zero, suc, ◌+◌, ◌<◌}
 use native.Mathlib.Omega.{arith}
 use native.Mathlib.Nat.{add-zero}
@@ -11,9 +12,6 @@ use borrow.Author.Tests.{lt-ltb, le-ltb}
 use Rattle.machine.specs.declared.Cpu.{Cpu}
 use Rattle.machine.specs.declared.Failure.{Failure}
 use Rattle.machine.specs.declared.Guest.{Guest}
-use Rattle.machine.specs.declared.TableEntry.TheVariants.{Word}
-use Rattle.machine.specs.declared.Walk.{Walk}
-use Rattle.machine.specs.declared.Walk.TheVariants.{Page, Failed}
 use Rattle.machine.specs.Words.{byte_at, word_at}
 use Rattle.machine.specs.Entry.{extent_bytes}
 use Rattle.machine.specs.Psw.{wrap}
@@ -22,6 +20,7 @@ use Rattle.machine.specs.Host.{host, host_page, backing, in_frame, cell_of, view
 use Rattle.machine.specs.Addresses.{prefixed, byte_of, entry_of, guest_entry, Access, reached, denied, access, stopped, and_then, accesses, span, when_reached}
 use Rattle.machine.specs.Execute.{storing}
 use Rattle.machine.specs.Theorems.{SlipsRuledOut}
+use Rattle.machine.specs.Walk.{Walk}
 
 -- where one byte of a span is denied, the accesses stop
 stopped_somewhere : (one : ℕ → Access) (c : Cpu) (n a i : ℕ) (f : Failure) → i < n → one (wrap c (a + i)) ≡ denied f
@@ -44,15 +43,15 @@ stopped_somewhere one c (suc n) a (suc i) f h e = by_first (one (wrap c a)) (sto
 module _ (g : Guest) (d : ℕ) (s k₁ k₂ : List ℕ) where
   same_byte : (a : ℕ) (w : Walk) → byte_of (cell_of (host d s k₁) a w) ≡ byte_of (cell_of (host d s k₂) a w)
   unfolding byte_of cell_of
-  same_byte a (Failed f) = refl
-  same_byte a (Page frame protected) = refl
+  same_byte a (Err f) = refl
+  same_byte a (Ok page) = refl
 
   same_entry : (a : ℕ) (w : Walk)
       → entry_of (view g (host d s k₁)) a (cell_of (host d s k₁) a w) ≡ entry_of (view g (host d s k₂)) a (cell_of (host d s k₂) a w)
   unfolding entry_of cell_of view backing host_page
-  same_entry a (Failed f) = refl
-  same_entry a (Page frame protected) =
-      λ i. Word (word_at (byte_at s (in_frame frame a) ∷ byte (a + 1) i ∷ byte (a + 2) i ∷ byte (a + 3) i ∷ []) 0)
+  same_entry a (Err f) = refl
+  same_entry a (Ok page) =
+      λ i. Ok (word_at (byte_at s (in_frame page.frame a) ∷ byte (a + 1) i ∷ byte (a + 2) i ∷ byte (a + 3) i ∷ []) 0)
     where
       byte : (b : ℕ) → byte_of (view g (host d s k₁) b) ≡ byte_of (view g (host d s k₂) b)
       byte b = same_byte b (backing g (host d s k₁) b)

@@ -10,7 +10,6 @@ use lib.Dec.{eqb, ltb}
 use lib.ListN.{length, set, length-set, get_or-eq_default}
 use lib.Seq.{get_or-set_same}
 use borrow.Author.Tests.{ltb-true, ltb-false, eqb-true}
-use Rattle.machine.specs.declared.Answer.TheVariants as answer
 use Rattle.machine.specs.declared.Class.{Class}
 use Rattle.machine.specs.declared.Class.TheVariants.{Lr, Ar, Sr, Bcr, Svc, La, Bc, St, L, Lpsw, Stctl, Lctl, Stck, Spt, Stpt, Mandatory, Unassigned}
 use Rattle.machine.specs.declared.Cpu.{Cpu}
@@ -22,7 +21,6 @@ use Rattle.machine.specs.declared.Numbers.{Numbers}
 use Rattle.machine.specs.declared.Opcode.{Opcode}
 use Rattle.machine.specs.declared.Reason.{Reason}
 use Rattle.machine.specs.declared.Reason.TheVariants.{Instruction, Program, ExternalRequest, External, IoRequest, Wait, Validity, Stop, Operation}
-use Rattle.machine.specs.declared.Verdict.TheVariants.{Accepted}
 use Rattle.machine.specs.Words.{double_at}
 use Rattle.machine.specs.Psw.{instruction_address, with_psw, with_timer, with_control, with_general, with_address, advanced, with_condition_code}
 use Rattle.machine.specs.Time.{timer_after, charged}
@@ -37,14 +35,14 @@ use Rattle.machine.specs.Interruptions.{Areas, interrupt, after_exception, excep
 use Rattle.machine.specs.Execute.{finish, fetching, storing, with_sum, summed, branch, with_controls, execute, load_register, add, subtract, branch_register, branch_indexed, supervisor_call, load_address, store, load, load_psw, store_control, load_control, store_clock, set_timer, store_timer, intercept_instruction}
 use Rattle.machine.specs.Units.{decoded, halfword, half_of, reading, opcode_in, fetch_third, fetch_second, started, instruction, interval_code, unit}
 use Rattle.machine.specs.Run.{Machine, Ended, counted, onward, requested_by, unit_from, behind_of, after_unit, after_interception, clears_t, answered, with_tick, with_word, Step, goes, ends, step_of, step, run}
-use Rattle.machine.specs.Refusals.{run_verdict}
+use Rattle.machine.specs.Refusals.{run_verdict, no_refusal}
 use Rattle.machine.specs.Operations.{Result, result_of, machine_of}
-use Rattle.machine.specs.Answers.{end_results}
+use Rattle.machine.specs.Answers.{end_results, run_answer}
 use Rattle.machine.specs.Theorems.{AtSpt, interval_exit, Uncharged, TimerFalls, ExitChargesNothing}
 use Rattle.machine.proofs.Tests.{on_either_arm}
 use Rattle.machine.proofs.Verdicts.{accepted-length}
 use Rattle.machine.proofs.Ticks.{ticked_cases, update_keeps, answered_same, answered_keeps, residue_of-with_cpu, request_of-with_cpu, residue_of-with_request}
-use Rattle.machine.proofs.Runs.{exit_keeps, run_of_cases}
+use Rattle.machine.proofs.Runs.{exit_keeps, same_units, run_of_cases}
 use Rattle.machine.proofs.Laws.{good_length, double_of_bytes, length-with_cpu, length-with_results, length-with_interval, timer_of_with_cpu, byte_of-with_results, byte_of-with_request, byte_of-with_interval, length-end_results}
 
 -- what holds where a byte is not reached, and where all are, holds of `when_reached`
@@ -390,12 +388,12 @@ module _ (n : Numbers) (r storage keys : List ℕ) where
   module _ (end : End) (units : ℕ) (other : NoSpt n (machine_of n r storage keys) units) where
     -- a result with this end and these units: its timer has fallen once for each
     abbrev Fallen : Result → Type 0
-    Fallen result = result.answer ≡ answer.Ended end units → double_at result.description timer_at ≡ fallen n units (double_at r timer_at)
+    Fallen result = result.answer ≡ run_answer end units → double_at result.description timer_at ≡ fallen n units (double_at r timer_at)
 
     result_of-falls : (e : Ended) → Falls n (machine_of n r storage keys) e → Fallen (result_of n e)
     unfolding result_of
     result_of-falls e falls ended =
-        let same : e.units ≡ units = cc in
+        let same : e.units ≡ units = same_units ended in
         timer_of_with_results _ _ (length-end_results e.end) ∙ falls (λ i h. other i (omega arith)) ∙ rw (same, timer_of_machine_of)
 
 pub timer_falls : TimerFalls
@@ -405,5 +403,5 @@ timer_falls n r storage keys end units small ended other =
     (λ accepted good. result_of-falls n r storage keys end units other _ (run-falls n.budget n _ (sound accepted)))
     ended
   where
-    sound : run_verdict n r storage keys ≡ Accepted → Sound (machine_of n r storage keys)
+    sound : run_verdict n r storage keys ≡ no_refusal → Sound (machine_of n r storage keys)
     sound accepted = sound_machine_of n r storage keys (good_length r (accepted-length n r storage keys accepted)) small

@@ -11,14 +11,11 @@ use Rattle.machine.specs.declared.End.TheVariants.{HostFault}
 use Rattle.machine.specs.declared.Failure.{Failure}
 use Rattle.machine.specs.declared.Numbers.{Numbers}
 use Rattle.machine.specs.declared.Reason.{Reason}
-use Rattle.machine.specs.declared.Verdict.TheVariants.{Accepted}
-use Rattle.machine.specs.declared.Walk.{Walk}
-use Rattle.machine.specs.declared.Walk.TheVariants.{Page}
 use Rattle.machine.specs.Words.{word_at, word_bytes}
 use Rattle.machine.specs.Record.{guest_of, cpu_of, with_cpu, request_of, residue_of, with_interval}
 use Rattle.machine.specs.Interval.{word_place, active, falls, residue_after, word_after, request_after}
 use Rattle.machine.specs.Sizes.{frame_bytes}
-use Rattle.machine.specs.Refusals.{run_verdict}
+use Rattle.machine.specs.Refusals.{run_verdict, no_refusal}
 use Rattle.machine.specs.Entry.{entry_good}
 use Rattle.machine.specs.Frames.{segment_place, page_place, SegmentInReach, PageInReach, Describes}
 use Rattle.machine.specs.Host.{host, backing, view, Located}
@@ -34,6 +31,7 @@ use Rattle.machine.proofs.Runs.{exit_keeps}
 use Rattle.machine.proofs.FrameBytes.{In}
 use Rattle.machine.proofs.Backing.{SameEntries, OfExtent, same_sought, same_backing, backed_by_guest_frame, same_view}
 use Rattle.machine.proofs.Effects.{Outside, Alike, stored-alike, bytes-alike, marked_by-alike}
+use Rattle.machine.specs.Walk.{Walk, at_frame}
 
 module _ (n : Numbers) (r s₁ k₁ s₂ k₂ : List ℕ) where
   -- the machines of two runs that started with this record, these storages and these keys, after as many units
@@ -54,7 +52,7 @@ module _ (n : Numbers) (r s₁ k₁ s₂ k₂ : List ℕ) where
     both_go : {a₁ a₂ : Machine} → Twins a₁ a₂ → SameStep (goes a₁) (goes a₂)
     both_end : {e : End} {a₁ a₂ : Machine} → Twins a₁ a₂ → SameStep (ends e a₁) (ends e a₂)
 
-  module _ (agree : Agree n r s₁ k₁ s₂ k₂) (accepted : run_verdict n r s₁ k₁ ≡ Accepted) where
+  module _ (agree : Agree n r s₁ k₁ s₂ k₂) (accepted : run_verdict n r s₁ k₁ ≡ no_refusal) where
     pub same_start : SameEntries (guest_of r) n.designation s₁ s₂
     same_start = record { lengths = agree.alike.lengths.0; entries = λ at i h. agree.alike.entries at i (record { accepted = accepted; describes = h }) }
 
@@ -79,7 +77,7 @@ module _ (n : Numbers) (r s₁ k₁ s₂ k₂ : List ℕ) where
       abbrev pub pages : ℕ → Walk
       pages = backing (guest_of r) (host n.designation s₁ k₁)
 
-      pub into_frames : (a f : ℕ) (p : Bool) → pages a ≡ Page f p → RunFrame n r s₁ k₁ f
+      pub into_frames : (a f : ℕ) (p : Bool) → pages a ≡ at_frame f p → RunFrame n r s₁ k₁ f
       into_frames a f p e = record { accepted = accepted; guest = backed_by_guest_frame (guest_of r) n.designation s₁ k₁ good a e }
 
       pages_kept : (m : Machine) → guest_of m.description ≡ guest_of r → SameEntries (guest_of r) n.designation s₁ m.storage → behind_of n m ≡ pages

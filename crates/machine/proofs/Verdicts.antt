@@ -10,19 +10,18 @@ use lib.Dec.{eqb, leb, lit<, lit≤}
 use lib.ListN.{length}
 use borrow.Author.Tests.{eq-eqb, le-ltb, ltb-false, leb-false, eqb-true, eqb-false, not-false}
 use Rattle.machine.specs.declared.Numbers.{Numbers}
-use Rattle.machine.specs.declared.Verdict.{Verdict}
-use Rattle.machine.specs.declared.Verdict.TheVariants.{Accepted}
+use Rattle.machine.specs.declared.Refusal.{Refusal}
 use Rattle.machine.specs.Words.{byte_at, half_at, word_at}
 use Rattle.machine.specs.Record.{record_length, long_length, GoodLength, version_for, residue_of}
 use Rattle.machine.specs.Interval.{period}
-use Rattle.machine.specs.Refusals.{most_units, most_time, frames_of, wrong_length, wrong_version, wrong_storage, wrong_keys, wrong_budget, wrong_time, used, wrong_interval, reserved_used, refuse, run_verdict}
+use Rattle.machine.specs.Refusals.{most_units, most_time, frames_of, wrong_length, wrong_version, wrong_storage, wrong_keys, wrong_budget, wrong_time, used, wrong_interval, reserved_used, refuse, run_verdict, Verdict, no_refusal}
 use Rattle.machine.specs.Theorems.{with_budget}
 use Rattle.machine.proofs.Laws.{SameBytes}
 
 -- of accepted input every test failed
-pub accepted_test : (number : ℕ) (test : Bool) (later : Verdict) → refuse number test later ≡ Accepted → (test ≡ false) × (later ≡ Accepted)
-accepted_test number true later e = (cc, cc)
-accepted_test number false later e = (refl, e)
+pub accepted_test : (refusal : Refusal) (test : Bool) (later : Verdict) → refuse refusal test later ≡ no_refusal → (test ≡ false) × (later ≡ no_refusal)
+accepted_test refusal true later e = (cc, cc)
+accepted_test refusal false later e = (refl, e)
 
 -- of two tests neither holds
 neither : (a b : Bool) → (a || b) ≡ false → (a ≡ false) × (b ≡ false)
@@ -50,37 +49,37 @@ no_time : (n : Numbers) → n.time ≡ 0 → wrong_time n ≡ true
 unfolding wrong_time
 no_time n e = rw e
 
-module _ (n : Numbers) (r storage keys : List ℕ) (accepted : run_verdict n r storage keys ≡ Accepted) where
+module _ (n : Numbers) (r storage keys : List ℕ) (accepted : run_verdict n r storage keys ≡ no_refusal) where
   pub accepted-length : GoodLength r
   unfolding run_verdict
-  accepted-length = length_of_right r (accepted_test 1 (wrong_length r) _ accepted).0
+  accepted-length = length_of_right r (accepted_test _ (wrong_length r) _ accepted).0
 
   pub accepted_budget : n.budget ≤ most_units
   unfolding run_verdict wrong_budget
   accepted_budget =
-      let second = (accepted_test 1 (wrong_length r) _ accepted).1 in
-      let third = (accepted_test 2 (wrong_version r) _ second).1 in
-      let fourth = (accepted_test 3 (wrong_storage storage) _ third).1 in
-      let fifth = (accepted_test 4 (wrong_keys storage keys) _ fourth).1 in
-      ltb-false most_units n.budget (accepted_test 5 (wrong_budget n) _ fifth).0
+      let second = (accepted_test _ (wrong_length r) _ accepted).1 in
+      let third = (accepted_test _ (wrong_version r) _ second).1 in
+      let fourth = (accepted_test _ (wrong_storage storage) _ third).1 in
+      let fifth = (accepted_test _ (wrong_keys storage keys) _ fourth).1 in
+      ltb-false most_units n.budget (accepted_test _ (wrong_budget n) _ fifth).0
 
   -- the tests behind that of the budget
   later_tests : (wrong_time n ≡ false) × (reserved_used r ≡ false)
   unfolding run_verdict
   later_tests =
-      let second = (accepted_test 1 (wrong_length r) _ accepted).1 in
-      let third = (accepted_test 2 (wrong_version r) _ second).1 in
-      let fourth = (accepted_test 3 (wrong_storage storage) _ third).1 in
-      let fifth = (accepted_test 4 (wrong_keys storage keys) _ fourth).1 in
-      let sixth = (accepted_test 5 (wrong_budget n) _ fifth).1 in
-      let seventh = (accepted_test 6 (wrong_time n) _ sixth).1 in
-      ((accepted_test 6 (wrong_time n) _ sixth).0, (accepted_test 7 (reserved_used r) _ seventh).0)
+      let second = (accepted_test _ (wrong_length r) _ accepted).1 in
+      let third = (accepted_test _ (wrong_version r) _ second).1 in
+      let fourth = (accepted_test _ (wrong_storage storage) _ third).1 in
+      let fifth = (accepted_test _ (wrong_keys storage keys) _ fourth).1 in
+      let sixth = (accepted_test _ (wrong_budget n) _ fifth).1 in
+      let seventh = (accepted_test _ (wrong_time n) _ sixth).1 in
+      ((accepted_test _ (wrong_time n) _ sixth).0, (accepted_test _ (reserved_used r) _ seventh).0)
 
   pub accepted_version : byte_at r 2 ≡ version_for (length r)
   unfolding run_verdict wrong_version
   accepted_version =
-      let second = (accepted_test 1 (wrong_length r) _ accepted).1 in
-      eqb-true (byte_at r 2) (version_for (length r)) (not-false _ (accepted_test 2 (wrong_version r) _ second).0)
+      let second = (accepted_test _ (wrong_length r) _ accepted).1 in
+      eqb-true (byte_at r 2) (version_for (length r)) (not-false _ (accepted_test _ (wrong_version r) _ second).0)
 
   pub accepted_time : n.time ≤ most_time
   unfolding wrong_time

@@ -1,16 +1,13 @@
 -- How a walk ends: every walk ends as its way says, and what the walk read on each way.
 -- Assumes nothing.
+use Rattle.std.specs.Prelude.{Err, Ok}
 use Prim.Native.Nat.{ℕ, ◌*◌, ◌/◌}
 use native.Mathlib.Omega.{arith}
 use mathlib.Core.Path.{◌≡◌, refl}
 use mathlib.Core.Bool.{Bool, true, false, cond}
 use Rattle.machine.specs.declared.Failure.{Failure}
-use Rattle.machine.specs.declared.TableEntry.{TableEntry}
-use Rattle.machine.specs.declared.TableEntry.TheVariants.{Word, Unread}
-use Rattle.machine.specs.declared.Walk.{Walk}
-use Rattle.machine.specs.declared.Walk.TheVariants.{Page, Failed}
 use Rattle.machine.specs.Sizes.{page_bytes}
-use Rattle.machine.specs.Walk.{segment_index, page_index, segment_entry_at, past_segment_table, segment_invalid, segment_malformed, page_entry_at, past_page_table, page_invalid, page_malformed, walk, walk_segment, walk_page}
+use Rattle.machine.specs.Walk.{segment_index, page_index, segment_entry_at, past_segment_table, segment_invalid, segment_malformed, page_entry_at, past_page_table, page_invalid, page_malformed, walk, walk_segment, walk_page, TableEntry, Walk, at_frame}
 use Rattle.machine.specs.Sought.{Way, way_of_page, way_of_segment, way, found_by}
 use Rattle.machine.specs.WhichTable.{SegmentWord, PageSought, Went, past_segments, lacks_segment, bad_segment, past_pages, lacks_page, bad_page, good_page}
 use Rattle.machine.proofs.Tests.{on_either_arm, by_either_test}
@@ -22,13 +19,13 @@ module _ (read : ℕ → TableEntry) (fail : ℕ → Failure) where
 
   found-page : (at : ℕ) (x : TableEntry) → found_by fail (way_of_page at x) ≡ walk_page fail x
   unfolding way_of_page walk_page found_by
-  found-page at (Unread f) = refl
-  found-page at (Word e) = simp found_of_test
+  found-page at (Err f) = refl
+  found-page at (Ok e) = simp found_of_test
 
   found-segment : (at index : ℕ) (x : TableEntry) → found_by fail (way_of_segment read at index x) ≡ walk_segment read fail index x
   unfolding way_of_segment walk_segment found_by
-  found-segment at index (Unread f) = refl
-  found-segment at index (Word e) = simp (found_of_test, found-page)
+  found-segment at index (Err f) = refl
+  found-segment at index (Ok e) = simp (found_of_test, found-page)
 
   pub walk_by_way : (d a : ℕ) → walk read fail d a ≡ found_by fail (way read d a)
   unfolding way walk found_by
@@ -48,14 +45,14 @@ module _ (read : ℕ → TableEntry) (d a : ℕ) where
   went = by_either_test (Went read d a) _ past_segments (λ near. by_segment near (read (segment_entry_at d (segment_index a))) refl)
     where
       by_page : (e : ℕ) → PageSought read d a e → (x : TableEntry) → read (page_entry_at e (page_index a)) ≡ x → Went read d a (way_of_page (page_entry_at e (page_index a)) x)
-      by_page e to (Unread f) is = lacks_page to is
-      by_page e to (Word p) is =
+      by_page e to (Err f) is = lacks_page to is
+      by_page e to (Ok p) is =
           on_either_arm (Went read d a) (page_invalid p) (bad_page to is) (on_either_arm (Went read d a) (page_malformed p) (bad_page to is) (good_page to is))
 
       by_segment : past_segment_table d (segment_index a) ≡ false → (x : TableEntry) → read (segment_entry_at d (segment_index a)) ≡ x
           → Went read d a (way_of_segment read (segment_entry_at d (segment_index a)) (page_index a) x)
-      by_segment near (Unread f) is = lacks_segment is
-      by_segment near (Word e) is =
+      by_segment near (Err f) is = lacks_segment is
+      by_segment near (Ok e) is =
           let segment : SegmentWord read d a e = record { in_table = near; is = is } in
           by_either_test (Went read d a) (segment_invalid e) (λ _. bad_segment segment)
           λ valid. by_either_test (Went read d a) (segment_malformed e) (λ _. bad_segment segment)
@@ -64,12 +61,12 @@ module _ (read : ℕ → TableEntry) (d a : ℕ) where
 
 -- a walk that ends at a page, or fails so
 pub data GoodWalk (Q : Failure → Type 0) : Walk → Type 0 where
-  finds : {frame : ℕ} {protected : Bool} → GoodWalk Q (Page frame protected)
-  fails : {f : Failure} → Q f → GoodWalk Q (Failed f)
+  finds : {frame : ℕ} {protected : Bool} → GoodWalk Q (at_frame frame protected)
+  fails : {f : Failure} → Q f → GoodWalk Q (Err f)
 
 -- what holds of every failure that the walk makes of a code, and of every entry that cannot be read
 pub walk-good : (Q : Failure → Type 0) (read : ℕ → TableEntry) (fail : ℕ → Failure) (d a : ℕ) → ((code : ℕ) → Q (fail code))
-    → ((at : ℕ) (f : Failure) → read at ≡ Unread f → Q f) → GoodWalk Q (walk read fail d a)
+    → ((at : ℕ) (f : Failure) → read at ≡ Err f → Q f) → GoodWalk Q (walk read fail d a)
 unfolding found_by
 walk-good Q read fail d a by_code lacks = rw walk_by_way (by_way (went read d a))
   where

@@ -1,17 +1,13 @@
 -- Document 01, "Addresses": from a logical address to the byte that the guest reaches, for each byte in turn.
-use Rattle.std.specs.Prelude.{ℕ, zero, suc, ◌+◌, ◌*◌, ◌/◌, ◌%◌, Bool, cond, not, ◌&&◌, ◌||◌, List, [], ◌∷◌, eqb, ltb}
+use Rattle.std.specs.Prelude.{ℕ, zero, suc, ◌+◌, ◌*◌, ◌/◌, ◌%◌, Bool, cond, not, ◌&&◌, ◌||◌, List, [], ◌∷◌, eqb, ltb, Err, Ok}
 use Rattle.machine.specs.declared.Cpu.{Cpu}
 use Rattle.machine.specs.declared.Failure.{Failure}
 use Rattle.machine.specs.declared.Guest.{Guest}
-use Rattle.machine.specs.declared.TableEntry.{TableEntry}
-use Rattle.machine.specs.declared.TableEntry.TheVariants.{Word, Unread}
-use Rattle.machine.specs.declared.Walk.{Walk}
-use Rattle.machine.specs.declared.Walk.TheVariants.{Page, Failed}
 use Rattle.machine.specs.Words.{bits, bit, word_at}
 use Rattle.machine.specs.Sizes.{page_bytes}
 use Rattle.machine.specs.Psw.{dat_on, access_key, wrap, control}
 use Rattle.machine.specs.Failures.{protection, translation_specification, host_fault, exception_of, walk_exception}
-use Rattle.machine.specs.Walk.{walk}
+use Rattle.machine.specs.Walk.{walk, TableEntry, Walk, at_frame}
 use Rattle.machine.specs.Host.{Cell, absent, present, Located, host_virtual}
 
 -- prefixing exchanges real block 0 and the prefix block
@@ -27,8 +23,8 @@ byte_of (present byte key protected) = byte
 
 -- the word of a guest table that starts at a guest absolute address, its first byte's cell given. Keys do not guard table reads.
 unfoldable pub entry_of : (ℕ → Cell) → ℕ → Cell → TableEntry
-entry_of v a (absent f) = Unread f
-entry_of v a (present byte key protected) = Word (word_at (byte ∷ byte_of (v (a + 1)) ∷ byte_of (v (a + 2)) ∷ byte_of (v (a + 3)) ∷ []) 0)
+entry_of v a (absent f) = Err f
+entry_of v a (present byte key protected) = Ok (word_at (byte ∷ byte_of (v (a + 1)) ∷ byte_of (v (a + 2)) ∷ byte_of (v (a + 3)) ∷ []) 0)
 
 -- the entry at a guest real address: past the extent it is addressing, with no wrap
 unfoldable pub guest_entry : Guest → (ℕ → Cell) → ℕ → TableEntry
@@ -41,8 +37,8 @@ format_good c = eqb (bits 32 8 12 (control c 0)) 0b10110
 -- the real page of a logical address. CR1 is the guest's designation.
 unfoldable pub real_page : Guest → (ℕ → Cell) → Cpu → ℕ → Walk
 real_page g v c a =
-    cond (not (dat_on c)) (Page (a / page_bytes) Bool.false)
-    (cond (not (format_good c)) (Failed (exception_of translation_specification))
+    cond (not (dat_on c)) (at_frame (a / page_bytes) Bool.false)
+    (cond (not (format_good c)) (Err (exception_of translation_specification))
     (walk (guest_entry g v) (walk_exception a) (control c 1) a))
 
 -- one byte: reached, with what stands there; or why not
@@ -69,12 +65,12 @@ key_protects c store key =
 
 -- a byte of a real page: guest page protection, then key protection
 unfoldable pub in_page : Guest → (ℕ → Cell) → Cpu → Bool → ℕ → Walk → Access
-in_page g v c store a (Failed f) = denied f
-in_page g v c store a (Page frame protected) =
-    settle g store (λ key. (store && protected) || key_protects c store key) absolute (v absolute)
+in_page g v c store a (Err f) = denied f
+in_page g v c store a (Ok page) =
+    settle g store (λ key. (store && page.protected) || key_protects c store key) absolute (v absolute)
   where
     absolute : ℕ
-    absolute = prefixed g (frame * page_bytes + a % page_bytes)
+    absolute = prefixed g (page.frame * page_bytes + a % page_bytes)
 
 -- stores to 0-511 with CR0 bit 3 one
 unfoldable pub low_protected : Cpu → ℕ → Bool

@@ -1,13 +1,39 @@
 -- Document 01's numbers and values for each case of the answers, and bytes 52-65 of the record for each end of a run.
-use Rattle.std.specs.Prelude.{ℕ, List, ◌∷◌, ◌++◌}
+use Rattle.std.specs.Prelude.{ℕ, List, ◌∷◌, ◌++◌, Ok}
+use Rattle.machine.specs.declared.Refusal.TheVariants.{WrongLength, WrongVersion, WrongStorage, WrongKeys, WrongBudget, WrongTime, ReservedUsed, WrongAccess, Malformed, OutOfReach, AlreadyValid, NotValid, FrameOutside, Entangled, ShortWorkspace, WrongRange}
 use Rattle.machine.specs.declared.End.{End}
 use Rattle.machine.specs.declared.End.TheVariants.{Intercepted, HostFault, BudgetUsed}
 use Rattle.machine.specs.declared.Reason.{Reason}
 use Rattle.machine.specs.declared.Reason.TheVariants.{Instruction, Program, ExternalRequest, External, IoRequest, Wait, Validity, Stop, Operation}
+use Rattle.machine.specs.declared.Refusal.{Refusal}
 use Rattle.machine.specs.declared.Stage.{Stage}
 use Rattle.machine.specs.declared.Stage.TheVariants.{None, GuestSegment, GuestPage, HostSegment, HostPage}
 use Rattle.machine.specs.declared.Text.{Text}
 use Rattle.machine.specs.Words.{half_bytes, word_bytes}
+use Rattle.machine.specs.Refusals.{RunAnswer}
+
+-- the number of a refusal
+unfoldable pub refusal_number : Refusal → ℕ
+refusal_number WrongLength = 1
+refusal_number WrongVersion = 2
+refusal_number WrongStorage = 3
+refusal_number WrongKeys = 4
+refusal_number WrongBudget = 5
+refusal_number WrongTime = 6
+refusal_number ReservedUsed = 7
+refusal_number WrongAccess = 8
+refusal_number Malformed = 9
+refusal_number OutOfReach = 10
+refusal_number AlreadyValid = 11
+refusal_number NotValid = 12
+refusal_number FrameOutside = 13
+refusal_number Entangled = 14
+refusal_number ShortWorkspace = 15
+refusal_number WrongRange = 16
+
+-- the answer of a run that is not refused
+abbrev pub run_answer : End → ℕ → RunAnswer
+run_answer end units = Ok (record { end = end; units = units })
 
 -- the interception code
 unfoldable pub reason_code : Reason → ℕ

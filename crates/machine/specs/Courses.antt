@@ -1,13 +1,12 @@
 -- TWO READINGS over runs one after the other, request 5/12: the values that STCK stores differ in a run that is cut and resumed, and in any
 -- course of runs whose host clock is not set back. The proofs are in proofs/Courses.
-use Rattle.std.specs.Prelude.{ℕ, ◌+◌, ◌*◌, ◌%◌, ◌^◌, ◌≤◌, ◌<◌, ◌≡◌, List, [], ◌∷◌}
-use Rattle.machine.specs.declared.Answer.{Answer}
-use Rattle.machine.specs.declared.Answer.TheVariants.{Ended, Refused}
+use Rattle.std.specs.Prelude.{ℕ, ◌+◌, ◌*◌, ◌%◌, ◌^◌, ◌≤◌, ◌<◌, ◌≡◌, List, [], ◌∷◌, Err, Ok}
 use Rattle.machine.specs.declared.Numbers.{Numbers}
 use Rattle.machine.specs.Record.{guest_of}
 use Rattle.machine.specs.Operations.{Result, run_of}
 use Rattle.machine.specs.Theorems.{with_budget, resumed_with}
 use Rattle.machine.specs.Readings.{StoresClock, before_unit}
+use Rattle.machine.specs.Refusals.{RunAnswer}
 
 -- one run of a course, and how far the host clock goes on between it and the next
 pub record Stretch : Type 0 where
@@ -18,9 +17,9 @@ pub record Stretch : Type 0 where
   pub pause : ℕ
 
 -- the units that an answer counts
-abbrev pub units_in : Answer → ℕ
-units_in (Refused number) = 0
-units_in (Ended end units) = units
+abbrev pub units_in : RunAnswer → ℕ
+units_in (Err number) = 0
+units_in (Ok stopped) = stopped.units
 
 abbrev pub units_of : Stretch → ℕ
 units_of s = units_in (run_of s.numbers s.description s.storage s.keys).answer

@@ -1,6 +1,6 @@
 -- Document 01, "Case file and worked examples": the starred examples, as one collection under a single statement. Then those of
 -- request 1/12, and those of request 2/12, as others.
-use Rattle.std.specs.Prelude.{ℕ, ◌-◌, ◌*◌, ◌/◌, ◌^◌, ◌≤◌, ◌≡◌, Bool, true, false, List, [], ◌∷◌, length}
+use Rattle.std.specs.Prelude.{ℕ, ◌-◌, ◌*◌, ◌/◌, ◌^◌, ◌≤◌, ◌≡◌, Bool, true, false, List, [], ◌∷◌, length, Ok}
 use Rattle.machine.specs.declared.Class.TheVariants.{Ar, Mandatory, Unassigned}
 use Rattle.machine.specs.declared.Cpu.{Cpu}
 use Rattle.machine.specs.declared.End.TheVariants.{HostFault}
@@ -8,14 +8,11 @@ use Rattle.machine.specs.declared.Guest.{Guest}
 use Rattle.machine.specs.declared.Psw.{Psw}
 use Rattle.machine.specs.declared.Reason.TheVariants.{External, Validity}
 use Rattle.machine.specs.declared.Stage.TheVariants.{GuestSegment, GuestPage, HostPage}
-use Rattle.machine.specs.declared.TableEntry.TheVariants.{Word}
 use Rattle.machine.specs.declared.Translated.TheVariants.{Address, Failed}
-use Rattle.machine.specs.declared.Verdict.TheVariants.{Accepted}
-use Rattle.machine.specs.declared.Walk.TheVariants.{Page}
 use Rattle.machine.specs.Words.{bits, word_at}
 use Rattle.machine.specs.Record.{system370_mode, guest_of, cpu_of, psw_bytes}
 use Rattle.machine.specs.Interval.{falls, residue_after, word_after, request_after}
-use Rattle.machine.specs.Refusals.{translate_verdict}
+use Rattle.machine.specs.Refusals.{translate_verdict, no_refusal}
 use Rattle.machine.specs.Entry.{extent_bytes, mode_installed, entry_good}
 use Rattle.machine.specs.Psw.{psw_bit, basic_control, extended_control, dat_on, io_enabled, external_enabled, access_key, condition_code, overflow_enabled, mode31, not_installed, malformed, control, general, with_address, old_psw}
 use Rattle.machine.specs.Time.{guest_clock, comparator_due, timer_due, charged}
@@ -29,10 +26,11 @@ use Rattle.machine.specs.Execute.{r1, r2, execute}
 use Rattle.machine.specs.Units.{stop_requested, unit}
 use Rattle.machine.specs.Sought.{nowhere, sought, end_sought}
 use Rattle.machine.specs.Operations.{translate}
+use Rattle.machine.specs.Walk.{at_frame}
 
 -- the setup: any record, storage and keys with these words, numbers and bits
 pub record Setup (r : List ℕ) (h : Host) : Type 0 where
-  pub accepted : translate_verdict r h.storage h.keys 0 ≡ Accepted
+  pub accepted : translate_verdict r h.storage h.keys 0 ≡ no_refusal
   pub designation : h.designation ≡ 0x1000
   pub segment : word_at h.storage 4096 ≡ 0x2000
   pub page : word_at h.storage 8192 ≡ 0x3000
@@ -47,10 +45,10 @@ pub record Setup (r : List ℕ) (h : Host) : Type 0 where
   pub bit32 : mode31 (cpu_of r) ≡ true
 
 pub record StarredExamples : Type 0 where
-  pub fetch_at0 : (r : List ℕ) (h : Host) → Setup r h → translate r h 0 0 ≡ Address 12288
-  pub fetch_at4095 : (r : List ℕ) (h : Host) → Setup r h → translate r h 4095 0 ≡ Address 16383
-  pub fetch_at4096 : (r : List ℕ) (h : Host) → Setup r h → translate r h 4096 0 ≡ Failed (host_fault 4096 page_translation) (record { stage = HostPage; entry = 0x2004 })
-  pub fetch_at65536 : (r : List ℕ) (h : Host) → Setup r h → translate r h 65536 0 ≡ Failed (exception_of addressing) nowhere
+  pub fetch_at0 : (r : List ℕ) (h : Host) → Setup r h → translate r h 0 0 ≡ Ok (Address 12288)
+  pub fetch_at4095 : (r : List ℕ) (h : Host) → Setup r h → translate r h 4095 0 ≡ Ok (Address 16383)
+  pub fetch_at4096 : (r : List ℕ) (h : Host) → Setup r h → translate r h 4096 0 ≡ Ok (Failed (host_fault 4096 page_translation) (record { stage = HostPage; entry = 0x2004 }))
+  pub fetch_at65536 : (r : List ℕ) (h : Host) → Setup r h → translate r h 65536 0 ≡ Ok (Failed (exception_of addressing) nowhere)
   pub prefix_for0 : (r : List ℕ) → word_at r 8 ≡ 0x2000 → prefixed (guest_of r) 0 ≡ 0x2000
   pub prefix_for2010 : (r : List ℕ) → word_at r 8 ≡ 0x2000 → prefixed (guest_of r) 0x2010 ≡ 0x10
   pub prefix_for1000 : (r : List ℕ) → word_at r 8 ≡ 0x2000 → prefixed (guest_of r) 0x1000 ≡ 0x1000
@@ -107,18 +105,18 @@ pub record GuestTables (c : Cpu) : Type 0 where
 pub record WhichTableExamples : Type 0 where
   pub segment_past_table : (g : Guest) (h : Host) (c : Cpu) → GuestTables c
       → sought g h c 0x01000000 (walk_exception 0x01000000 segment_translation) ≡ record { stage = GuestSegment; entry = 0 }
-  pub segment_invalid : (g : Guest) (h : Host) (c : Cpu) → GuestTables c → guest_entry g (view g h) 0x1004 ≡ Word 0x20
+  pub segment_invalid : (g : Guest) (h : Host) (c : Cpu) → GuestTables c → guest_entry g (view g h) 0x1004 ≡ Ok 0x20
       → sought g h c 0x00100000 (walk_exception 0x00100000 segment_translation) ≡ record { stage = GuestSegment; entry = 0x1004 }
-  pub page_past_table : (g : Guest) (h : Host) (c : Cpu) → GuestTables c → guest_entry g (view g h) 0x1000 ≡ Word 0x2000
+  pub page_past_table : (g : Guest) (h : Host) (c : Cpu) → GuestTables c → guest_entry g (view g h) 0x1000 ≡ Ok 0x2000
       → sought g h c 0x00010000 (walk_exception 0x00010000 page_translation) ≡ record { stage = GuestPage; entry = 0 }
-  pub page_invalid : (g : Guest) (h : Host) (c : Cpu) → GuestTables c → guest_entry g (view g h) 0x1000 ≡ Word 0x2000
-      → guest_entry g (view g h) 0x2004 ≡ Word 0x0400
+  pub page_invalid : (g : Guest) (h : Host) (c : Cpu) → GuestTables c → guest_entry g (view g h) 0x1000 ≡ Ok 0x2000
+      → guest_entry g (view g h) 0x2004 ≡ Ok 0x0400
       → sought g h c 0x1000 (walk_exception 0x1000 page_translation) ≡ record { stage = GuestPage; entry = 0x2004 }
   pub segment_past_extent : (g : Guest) (h : Host) (c : Cpu) → GuestTables c → extent_bytes g ≤ prefixed g 0x1000
       → sought g h c 0 (exception_of addressing) ≡ record { stage = GuestSegment; entry = 0 }
-  pub page_past_extent : (g : Guest) (h : Host) (c : Cpu) → GuestTables c → guest_entry g (view g h) 0x1000 ≡ Word 0x2000
+  pub page_past_extent : (g : Guest) (h : Host) (c : Cpu) → GuestTables c → guest_entry g (view g h) 0x1000 ≡ Ok 0x2000
       → extent_bytes g ≤ prefixed g 0x2000 → sought g h c 0 (exception_of addressing) ≡ record { stage = GuestPage; entry = 0 }
-  pub final_past_extent : (g : Guest) (h : Host) (c : Cpu) (a frame : ℕ) (protected : Bool) → real_page g (view g h) c a ≡ Page frame protected
+  pub final_past_extent : (g : Guest) (h : Host) (c : Cpu) (a frame : ℕ) (protected : Bool) → real_page g (view g h) c a ≡ at_frame frame protected
       → sought g h c a (exception_of addressing) ≡ nowhere
   pub bad_format : (g : Guest) (h : Host) (c : Cpu) (a : ℕ) → format_good c ≡ false → sought g h c a (exception_of translation_specification) ≡ nowhere
   pub guest_protection : (g : Guest) (h : Host) (c : Cpu) (a : ℕ) → sought g h c a (exception_of protection) ≡ nowhere
@@ -130,4 +128,4 @@ pub record WhichTableExamples : Type 0 where
   pub end_of_run : (r : List ℕ) (h : Host) → Setup r h
       → end_sought h.designation h.storage (HostFault (host_fault 4096 page_translation)) ≡ record { stage = HostPage; entry = 0x2004 }
   pub frame_beyond_storage : (r : List ℕ) (h : Host) → Setup r h → word_at h.storage 8200 ≡ 0x8000
-      → translate r h 8192 0 ≡ Failed (host_fault 8192 addressing) (record { stage = HostPage; entry = 0x2008 })
+      → translate r h 8192 0 ≡ Ok (Failed (host_fault 8192 addressing) (record { stage = HostPage; entry = 0x2008 }))

@@ -1,20 +1,16 @@
 -- THE INTERVAL TIMER, request 1/12: in a unit, and over a run. The proofs are `falls-after_the_stores` and `interval_timer` in proofs/.
 use Rattle.std.specs.Prelude.{ℕ, zero, suc, ◌+◌, ◌-◌, ◌*◌, ◌/◌, ◌%◌, ◌^◌, ◌≤◌, ◌<◌, ◌≡◌, Bool, true, false, ◌||◌, List, map, get_or}
-use Rattle.machine.specs.declared.Answer.TheVariants.{Ended}
 use Rattle.machine.specs.declared.Cpu.{Cpu}
 use Rattle.machine.specs.declared.End.{End}
 use Rattle.machine.specs.declared.End.TheVariants.{Intercepted}
 use Rattle.machine.specs.declared.Guest.{Guest}
 use Rattle.machine.specs.declared.Numbers.{Numbers}
 use Rattle.machine.specs.declared.Reason.TheVariants.{Program}
-use Rattle.machine.specs.declared.Verdict.TheVariants.{Accepted}
-use Rattle.machine.specs.declared.Walk.{Walk}
-use Rattle.machine.specs.declared.Walk.TheVariants.{Page}
 use Rattle.machine.specs.Words.{word_at}
 use Rattle.machine.specs.Record.{guest_of, request_of, residue_of}
 use Rattle.machine.specs.Sizes.{frame_bytes}
 use Rattle.machine.specs.Interval.{word_place, active, period, fall, falls, word_after, turns_negative, pending}
-use Rattle.machine.specs.Refusals.{run_verdict}
+use Rattle.machine.specs.Refusals.{run_verdict, no_refusal}
 use Rattle.machine.specs.Entry.{entry_good}
 use Rattle.machine.specs.Failures.{operation}
 use Rattle.machine.specs.Host.{Host, host, in_frame, view, places, stored, byte_in}
@@ -24,6 +20,8 @@ use Rattle.machine.specs.Run.{Machine, unit_from, behind_of, goes, step, run}
 use Rattle.machine.specs.Operations.{Result, machine_of, run_of}
 use Rattle.machine.specs.Theorems.{Each, interval_exit}
 use Rattle.machine.specs.Isolation.{RunEntry, RunFrame}
+use Rattle.machine.specs.Answers.{run_answer}
+use Rattle.machine.specs.Walk.{Walk, at_frame}
 
 -- the timer's word, as the guest finds it
 unfoldable pub timer_word : Guest → Host → ℕ
@@ -47,7 +45,7 @@ turned (suc more) w = turns_negative w || turned more (word_after w)
 
 -- the host bytes behind two guest absolute addresses are two
 abbrev pub TwoBytes : (ℕ → Walk) → ℕ → ℕ → Type 0
-TwoBytes behind a b = (f f' : ℕ) (p p' : Bool) → behind a ≡ Page f p → behind b ≡ Page f' p' → in_frame f a ≡ in_frame f' b → ⊥
+TwoBytes behind a b = (f f' : ℕ) (p p' : Bool) → behind a ≡ at_frame f p → behind b ≡ at_frame f' p' → in_frame f a ≡ in_frame f' b → ⊥
 
 -- a place beside the word
 abbrev pub BesideWord : Guest → (ℕ → Walk) → ℕ → Type 0
@@ -62,7 +60,7 @@ module _ (n : Numbers) (r storage keys : List ℕ) (units : ℕ) where
   -- a run of an active timer whose units leave the word to the timer. As in demand 3, no entry that describes the extent lies in a guest
   -- frame.
   pub record Timed : Type 0 where
-    pub accepted : run_verdict n r storage keys ≡ Accepted
+    pub accepted : run_verdict n r storage keys ≡ no_refusal
     pub good : entry_good (guest_of r) ≡ true
     pub on : active (guest_of r) ≡ true
     pub apart : (at frame : ℕ) → RunEntry n r storage keys at → RunFrame n r storage keys frame → at / frame_bytes ≡ frame → ⊥
@@ -82,14 +80,14 @@ module _ (n : Numbers) (r storage keys : List ℕ) (units : ℕ) where
 
 -- however the run ended
 abbrev pub IntervalTimer : Type 0
-IntervalTimer = (n : Numbers) (r storage keys : List ℕ) (end : End) (units : ℕ) → (run_of n r storage keys).answer ≡ Ended end units
+IntervalTimer = (n : Numbers) (r storage keys : List ℕ) (end : End) (units : ℕ) → (run_of n r storage keys).answer ≡ run_answer end units
     → Timed n r storage keys units → (fallen : ℕ) × TimedAs n r storage keys units end (run_of n r storage keys) fallen
 
 -- What `Timed` asks can be met: a run with time 1 of one unit, in which the word falls from zero and sets T, and an exit, which adds
 -- nothing. The key of the word's frame gets the mark of the text's fetch, and none of the update. The proof is in crate witnesses.
 pub record FallsFromZero (n : Numbers) (r storage keys : List ℕ) : Type 0 where
   pub timed : Timed n r storage keys 1
-  pub ended : (run_of n r storage keys).answer ≡ Ended (Intercepted (Program operation 1 0)) 1
+  pub ended : (run_of n r storage keys).answer ≡ run_answer (Intercepted (Program operation 1 0)) 1
   pub word_before : timer_word (guest_of r) (host n.designation storage keys) ≡ 0
   pub word_after_it : timer_word (guest_of r) (host n.designation (run_of n r storage keys).storage (run_of n r storage keys).keys)
       ≡ 0xffffff00

@@ -1,22 +1,21 @@
 -- DEMAND 3: isolation. One statement about two whole runs; its proof is `isolation` in proofs/.
 use Rattle.std.specs.Prelude.{ℕ, ◌+◌, ◌*◌, ◌/◌, ◌≤◌, ◌<◌, ◌≡◌, List, length, get_or}
 use Rattle.machine.specs.declared.Numbers.{Numbers}
-use Rattle.machine.specs.declared.Verdict.TheVariants.{Accepted}
 use Rattle.machine.specs.Words.{byte_at}
 use Rattle.machine.specs.Record.{guest_of}
 use Rattle.machine.specs.Sizes.{frame_bytes}
-use Rattle.machine.specs.Refusals.{run_verdict}
+use Rattle.machine.specs.Refusals.{run_verdict, no_refusal}
 use Rattle.machine.specs.Frames.{Describes, GuestFrame}
 use Rattle.machine.specs.Operations.{run_of}
 
 -- The entries that describe the guest's extent, by host absolute address, and the guest frames, as a run starts. A refused run has none.
 module _ (n : Numbers) (r storage keys : List ℕ) where
   pub record RunEntry (at : ℕ) : Type 0 where
-    pub accepted : run_verdict n r storage keys ≡ Accepted
+    pub accepted : run_verdict n r storage keys ≡ no_refusal
     pub describes : Describes (guest_of r) n.designation storage at
 
   pub record RunFrame (frame : ℕ) : Type 0 where
-    pub accepted : run_verdict n r storage keys ≡ Accepted
+    pub accepted : run_verdict n r storage keys ≡ no_refusal
     pub guest : GuestFrame (guest_of r) n.designation storage frame
 
 -- Two runs with the same record and numbers, on storages and keys of the same lengths.

@@ -1,12 +1,12 @@
 -- What `Isolation` assumes can be met by two hosts that differ, and its part `apart` cannot be left out. The proofs are in crate witnesses.
 use Rattle.std.specs.Prelude.{ℕ, ◌/◌, ◌<◌, ◌≡◌, List, get_or}
-use Rattle.machine.specs.declared.Answer.TheVariants.{Ended}
 use Rattle.machine.specs.declared.End.{End}
 use Rattle.machine.specs.declared.Numbers.{Numbers}
 use Rattle.machine.specs.Words.{byte_at}
 use Rattle.machine.specs.Sizes.{frame_bytes}
 use Rattle.machine.specs.Operations.{run_of}
 use Rattle.machine.specs.Isolation.{RunFrame, AgreeButApart, Agree}
+use Rattle.machine.specs.Answers.{run_answer}
 
 module _ (n : Numbers) (r storage₁ keys₁ storage₂ keys₂ : List ℕ) where
   -- The hosts agree, and the run completes a unit and changes a byte of a guest frame. They differ in a byte and in the key of its frame,
@@ -15,7 +15,7 @@ module _ (n : Numbers) (r storage₁ keys₁ storage₂ keys₂ : List ℕ) wher
     pub agree : Agree n r storage₁ keys₁ storage₂ keys₂
     pub end : End
     pub units : ℕ
-    pub ended : (run_of n r storage₁ keys₁).answer ≡ Ended end units
+    pub ended : (run_of n r storage₁ keys₁).answer ≡ run_answer end units
     pub some : 0 < units
     pub stored : ℕ
     pub inside : RunFrame n r storage₁ keys₁ (stored / frame_bytes)

@@ -1,8 +1,6 @@
 -- Three of the public operations: check a record, translate one guest address, run; those of the page desk are desk's. Document 01, "What is built", "The record", "Entry".
 -- Request 1/12: a System/370 guest has no DAT. Request 2/12: an answer that fails has the table that was bad.
-use Rattle.std.specs.Prelude.{ℕ, Bool, cond, not, ◌&&◌, List, eqb}
-use Rattle.machine.specs.declared.Answer.{Answer}
-use Rattle.machine.specs.declared.Answer.TheVariants as answer
+use Rattle.std.specs.Prelude.{ℕ, Bool, cond, not, ◌&&◌, List, eqb, Err, Ok}
 use Rattle.machine.specs.declared.Checked.{Checked}
 use Rattle.machine.specs.declared.Checked.TheVariants as checked
 use Rattle.machine.specs.declared.Cpu.{Cpu}
@@ -13,40 +11,37 @@ use Rattle.machine.specs.declared.Reason.TheVariants.{Validity}
 use Rattle.machine.specs.declared.Sought.{Sought}
 use Rattle.machine.specs.declared.Translated.{Translated}
 use Rattle.machine.specs.declared.Translated.TheVariants as translated
-use Rattle.machine.specs.declared.Verdict.{Verdict}
-use Rattle.machine.specs.declared.Verdict.TheVariants.{Accepted, Refused}
-use Rattle.machine.specs.declared.Walk.{Walk}
-use Rattle.machine.specs.declared.Walk.TheVariants.{Page, Failed}
 use Rattle.machine.specs.Record.{guest_of, cpu_of, with_results}
-use Rattle.machine.specs.Refusals.{check_verdict, translate_verdict, run_verdict}
+use Rattle.machine.specs.Refusals.{check_verdict, translate_verdict, run_verdict, Answer, RunAnswer, Verdict}
 use Rattle.machine.specs.Entry.{entry_good}
 use Rattle.machine.specs.Psw.{dat_on, wrap}
 use Rattle.machine.specs.Host.{Host, in_frame, backing, view}
 use Rattle.machine.specs.Addresses.{Access, reached, denied, access}
 use Rattle.machine.specs.Sought.{nowhere, sought, end_sought}
 use Rattle.machine.specs.Run.{Machine, Ended, run}
-use Rattle.machine.specs.Answers.{end_results}
+use Rattle.machine.specs.Answers.{end_results, run_answer}
+use Rattle.machine.specs.Walk.{Walk}
 
 -- check
 
-unfoldable pub checked_as : List ℕ → Verdict → Checked
-checked_as r (Refused number) = checked.Refused number
-checked_as r Accepted = cond (entry_good (guest_of r)) checked.Good checked.Validity
+unfoldable pub checked_as : List ℕ → Verdict → Answer Checked
+checked_as r (Err number) = Err number
+checked_as r (Ok _) = cond (entry_good (guest_of r)) (Ok checked.Good) (Ok checked.Validity)
 
 -- answers good or code 32
-unfoldable pub check : List ℕ → Checked
+unfoldable pub check : List ℕ → Answer Checked
 check r = checked_as r (check_verdict r)
 
 -- translate
 
 -- the host absolute address of a guest absolute one
-unfoldable pub address_in : ℕ → Walk → Translated
-address_in a (Failed f) = translated.Failed f nowhere
-address_in a (Page frame protected) = translated.Address (in_frame frame a)
+unfoldable pub address_in : ℕ → Walk → Answer Translated
+address_in a (Err f) = Ok (translated.Failed f nowhere)
+address_in a (Ok page) = Ok (translated.Address (in_frame page.frame a))
 
 -- for a wrapped logical address: a byte that is reached lies in a frame, or its access would have failed
-unfoldable pub translated_to : Guest → Host → Cpu → ℕ → Access → Translated
-translated_to g h c a (denied f) = translated.Failed f (sought g h c a f)
+unfoldable pub translated_to : Guest → Host → Cpu → ℕ → Access → Answer Translated
+translated_to g h c a (denied f) = Ok (translated.Failed f (sought g h c a f))
 translated_to g h c a (reached l) = address_in l.absolute (backing g h l.absolute)
 
 -- DAT is off, or the guest is a 370-XA one
@@ -54,22 +49,22 @@ unfoldable pub translates : Cpu → Bool
 translates c = not (dat_on c && c.psw.system370)
 
 -- kind 1 is a store; kinds 0 and 2, fetches, are tested alike
-unfoldable pub translated_as : List ℕ → Host → ℕ → ℕ → Verdict → Translated
-translated_as r h a kind (Refused number) = translated.Refused number
-translated_as r h a kind Accepted =
+unfoldable pub translated_as : List ℕ → Host → ℕ → ℕ → Verdict → Answer Translated
+translated_as r h a kind (Err number) = Err number
+translated_as r h a kind (Ok _) =
     cond (entry_good (guest_of r) && translates (cpu_of r))
     (translated_to (guest_of r) h (cpu_of r) (wrap (cpu_of r) a) (access (guest_of r) (view (guest_of r) h) (cpu_of r) (eqb kind 1) (wrap (cpu_of r) a)))
-    translated.Validity
+    (Ok translated.Validity)
 
 -- takes any 32-bit address
-unfoldable pub translate : List ℕ → Host → ℕ → ℕ → Translated
+unfoldable pub translate : List ℕ → Host → ℕ → ℕ → Answer Translated
 translate r h a kind = translated_as r h a kind (translate_verdict r h.storage h.keys kind)
 
 -- run
 
 -- what a run answers, with the table of its host fault, and what it leaves behind
 pub record Result : Type 0 where
-  pub answer : Answer
+  pub answer : RunAnswer
   pub table : Sought
   pub description : List ℕ
   pub storage : List ℕ
@@ -78,7 +73,7 @@ pub record Result : Type 0 where
 -- bytes 52-65 are zero except as the end says
 unfoldable pub result_of : Numbers → Ended → Result
 result_of n e = record {
-  answer = answer.Ended e.end e.units;
+  answer = run_answer e.end e.units;
   table = end_sought n.designation e.machine.storage e.end;
   description = with_results (end_results e.end) e.machine.description;
   storage = e.machine.storage;
@@ -96,14 +91,14 @@ machine_of n r storage keys = record {
 
 -- entry comes first, once; a refusal and an entry failure change nothing else
 unfoldable pub run_as : Numbers → List ℕ → List ℕ → List ℕ → Verdict → Result
-run_as n r storage keys (Refused number) = record {
-  answer = answer.Refused number;
+run_as n r storage keys (Err number) = record {
+  answer = Err number;
   table = nowhere;
   description = r;
   storage = storage;
   keys = keys;
 }
-run_as n r storage keys Accepted =
+run_as n r storage keys (Ok _) =
     cond (entry_good (guest_of r)) (result_of n (run n.budget n (machine_of n r storage keys)))
     (result_of n (record { end = Intercepted Validity; units = 0; machine = machine_of n r storage keys }))
 

@@ -5,7 +5,6 @@
 -- stores the guest clock of its unit's start; and the budget times the time, 65,535 times 1,048,576 at most, stays below 2^64, after which the
 -- clock would come round. The epoch, added modulo 2^64, keeps values apart.
 use Rattle.std.specs.Prelude.{ℕ, ◌+◌, ◌-◌, ◌*◌, ◌%◌, ◌^◌, ◌<◌, ◌≡◌, Bool, true, false, List}
-use Rattle.machine.specs.declared.Answer.TheVariants.{Ended}
 use Rattle.machine.specs.declared.Cpu.{Cpu}
 use Rattle.machine.specs.declared.End.{End}
 use Rattle.machine.specs.declared.End.TheVariants.{BudgetUsed}
@@ -22,6 +21,7 @@ use Rattle.machine.specs.Execute.{operand_address}
 use Rattle.machine.specs.Units.{halfword, reading, first_text, second_text, half_of, started}
 use Rattle.machine.specs.Run.{Machine, host_of, unit_from, run}
 use Rattle.machine.specs.Operations.{machine_of, run_of}
+use Rattle.machine.specs.Answers.{run_answer}
 
 -- the unit from here, before anything is fetched
 abbrev pub begun : Numbers → Machine → Progress
@@ -60,13 +60,13 @@ before_unit n r storage keys i = (run i n (machine_of n r storage keys)).machine
 
 -- which value it is, and where it goes: the guest clock of the unit's start, `i` times the time after that of the run's, at the operand
 abbrev pub ReadingsAreTheGuestClock : Type 0
-ReadingsAreTheGuestClock = (n : Numbers) (r storage keys : List ℕ) (end : End) (units : ℕ) → (run_of n r storage keys).answer ≡ Ended end units
+ReadingsAreTheGuestClock = (n : Numbers) (r storage keys : List ℕ) (end : End) (units : ℕ) → (run_of n r storage keys).answer ≡ run_answer end units
     → (i value : ℕ) → i < units → (s : StoresClock n (before_unit n r storage keys i) value)
     → (value ≡ guest_clock (guest_of r) (n.clock + i * n.time)) × (s.effects.stores ≡ with_bytes s.operand (double_bytes value))
 
 -- TWO READINGS: the values of two completed units of one run that execute STCK differ, whatever lies between them and however the run ends
 abbrev pub TwoReadingsDiffer : Type 0
-TwoReadingsDiffer = (n : Numbers) (r storage keys : List ℕ) (end : End) (units : ℕ) → (run_of n r storage keys).answer ≡ Ended end units
+TwoReadingsDiffer = (n : Numbers) (r storage keys : List ℕ) (end : End) (units : ℕ) → (run_of n r storage keys).answer ≡ run_answer end units
     → (i j v w : ℕ) → i < j → j < units → StoresClock n (before_unit n r storage keys i) v → StoresClock n (before_unit n r storage keys j) w
     → v ≡ w → ⊥
 
@@ -75,7 +75,7 @@ TwoReadingsDiffer = (n : Numbers) (r storage keys : List ℕ) (end : End) (units
 pub record ReadTwice (system370 : Bool) (n : Numbers) (r storage keys : List ℕ) : Type 0 where
   pub mode : system370_mode (guest_of r).mode ≡ system370
   pub time : n.time ≡ 1
-  pub ended : (run_of n r storage keys).answer ≡ Ended BudgetUsed 3
+  pub ended : (run_of n r storage keys).answer ≡ run_answer BudgetUsed 3
   pub at_first : StoresClock n (before_unit n r storage keys 0) (2 ^ 64 - 1)
   pub after_svc : StoresClock n (before_unit n r storage keys 2) 1
 

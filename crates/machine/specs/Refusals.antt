@@ -1,12 +1,28 @@
 -- Document 01, "The record", the table of refusals, request 1/12 on 1, 2 and 7, and request 5/12 on 6. Refusal 9 is the case file's.
-use Rattle.std.specs.Prelude.{ℕ, zero, suc, ◌+◌, ◌*◌, ◌/◌, ◌%◌, Bool, false, cond, not, ◌&&◌, ◌||◌, List, eqb, leb, ltb, length}
+use Rattle.std.specs.Prelude.{ℕ, zero, suc, ◌+◌, ◌*◌, ◌/◌, ◌%◌, Bool, false, cond, not, ◌&&◌, ◌||◌, List, eqb, leb, ltb, length, ⊤, Result, Ok, Err}
 use Rattle.machine.specs.declared.Numbers.{Numbers}
-use Rattle.machine.specs.declared.Verdict.{Verdict}
-use Rattle.machine.specs.declared.Verdict.TheVariants.{Accepted, Refused}
+use Rattle.machine.specs.declared.Refusal.{Refusal}
+use Rattle.machine.specs.declared.Refusal.TheVariants.{WrongLength, WrongVersion, WrongStorage, WrongKeys, WrongBudget, WrongTime, ReservedUsed, WrongAccess}
+use Rattle.machine.specs.declared.Stopped.{Stopped}
 use Rattle.machine.specs.Sizes.{frame_bytes}
 use Rattle.machine.specs.Words.{byte_at, half_at}
 use Rattle.machine.specs.Record.{record_length, long_length, version_for, residue_of}
 use Rattle.machine.specs.Interval.{period}
+
+-- the answer of an operation: refused, or what it comes to
+abbrev pub Answer : Type 0 → Type 0
+Answer T = Result T Refusal
+
+-- of run
+abbrev pub RunAnswer : Type 0
+RunAnswer = Answer Stopped
+
+-- whether the input is refused
+abbrev pub Verdict : Type 0
+Verdict = Answer ⊤
+
+abbrev pub no_refusal : Verdict
+no_refusal = Ok tt
 
 abbrev pub most_frames : ℕ
 most_frames = 4096
@@ -66,26 +82,26 @@ reserved_used r = used r 66 6 || wrong_interval r
 unfoldable pub wrong_access : ℕ → Bool
 wrong_access kind = ltb 2 kind
 
--- a test with its number, before the tests that come later
-abbrev pub refuse : ℕ → Bool → Verdict → Verdict
-refuse number test later = cond test (Refused number) later
+-- a test with its refusal, before the tests that come later
+abbrev pub refuse : Refusal → Bool → Verdict → Verdict
+refuse refusal test later = cond test (Err refusal) later
 
 -- Checked in this order, each where the operation has that input.
 
 unfoldable pub check_verdict : List ℕ → Verdict
-check_verdict r = refuse 1 (wrong_length r) (refuse 2 (wrong_version r) (refuse 7 (reserved_used r) Accepted))
+check_verdict r = refuse WrongLength (wrong_length r) (refuse WrongVersion (wrong_version r) (refuse ReservedUsed (reserved_used r) no_refusal))
 
 unfoldable pub translate_verdict : List ℕ → List ℕ → List ℕ → ℕ → Verdict
 translate_verdict r storage keys kind =
-    refuse 1 (wrong_length r)
-    (refuse 2 (wrong_version r)
-    (refuse 3 (wrong_storage storage)
-    (refuse 4 (wrong_keys storage keys) (refuse 7 (reserved_used r) (refuse 8 (wrong_access kind) Accepted)))))
+    refuse WrongLength (wrong_length r)
+    (refuse WrongVersion (wrong_version r)
+    (refuse WrongStorage (wrong_storage storage)
+    (refuse WrongKeys (wrong_keys storage keys) (refuse ReservedUsed (reserved_used r) (refuse WrongAccess (wrong_access kind) no_refusal)))))
 
 unfoldable pub run_verdict : Numbers → List ℕ → List ℕ → List ℕ → Verdict
 run_verdict n r storage keys =
-    refuse 1 (wrong_length r)
-    (refuse 2 (wrong_version r)
-    (refuse 3 (wrong_storage storage)
-    (refuse 4 (wrong_keys storage keys)
-    (refuse 5 (wrong_budget n) (refuse 6 (wrong_time n) (refuse 7 (reserved_used r) Accepted))))))
+    refuse WrongLength (wrong_length r)
+    (refuse WrongVersion (wrong_version r)
+    (refuse WrongStorage (wrong_storage storage)
+    (refuse WrongKeys (wrong_keys storage keys)
+    (refuse WrongBudget (wrong_budget n) (refuse WrongTime (wrong_time n) (refuse ReservedUsed (reserved_used r) no_refusal))))))

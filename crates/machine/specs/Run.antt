@@ -7,7 +7,6 @@ use Rattle.machine.specs.declared.End.TheVariants.{Intercepted, HostFault, Budge
 use Rattle.machine.specs.declared.Numbers.{Numbers}
 use Rattle.machine.specs.declared.Reason.{Reason}
 use Rattle.machine.specs.declared.Reason.TheVariants.{Instruction, Program, ExternalRequest, External, IoRequest, Wait, Validity, Stop, Operation}
-use Rattle.machine.specs.declared.Walk.{Walk}
 use Rattle.machine.specs.Words.{word_at, word_bytes}
 use Rattle.machine.specs.Record.{guest_of, cpu_of, with_cpu, request_of, residue_of, with_request, with_interval}
 use Rattle.machine.specs.Interval.{word_place, active, falls, residue_after, word_after, pending, without_t, request_after}
@@ -17,6 +16,7 @@ use Rattle.machine.specs.Addresses.{Accesses, real_access, accesses, up_from, wh
 use Rattle.machine.specs.Outcomes.{Effects, Outcome, completed, intercepted, faulted}
 use Rattle.machine.specs.Interruptions.{with_bytes}
 use Rattle.machine.specs.Units.{interval_code, unit}
+use Rattle.machine.specs.Walk.{Walk}
 
 pub record Machine : Type 0 where
   pub description : List ℕ

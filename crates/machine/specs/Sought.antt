@@ -1,6 +1,6 @@
 -- Request 2/12: which table was bad. The table whose entry was sought when a walk ended, and the entry's address, or zero where the entry
 -- was not read.
-use Rattle.std.specs.Prelude.{ℕ, cond, not, List, eqb}
+use Rattle.std.specs.Prelude.{ℕ, cond, not, List, eqb, Err, Ok}
 use Rattle.machine.specs.declared.Cpu.{Cpu}
 use Rattle.machine.specs.declared.End.{End}
 use Rattle.machine.specs.declared.End.TheVariants.{Intercepted, HostFault, BudgetUsed}
@@ -9,13 +9,9 @@ use Rattle.machine.specs.declared.Guest.{Guest}
 use Rattle.machine.specs.declared.Sought.{Sought}
 use Rattle.machine.specs.declared.Stage.{Stage}
 use Rattle.machine.specs.declared.Stage.TheVariants.{None, GuestSegment, GuestPage, HostSegment, HostPage}
-use Rattle.machine.specs.declared.TableEntry.{TableEntry}
-use Rattle.machine.specs.declared.TableEntry.TheVariants.{Word, Unread}
-use Rattle.machine.specs.declared.Walk.{Walk}
-use Rattle.machine.specs.declared.Walk.TheVariants.{Page, Failed}
 use Rattle.machine.specs.Psw.{dat_on, control}
 use Rattle.machine.specs.Failures.{protection, segment_translation, page_translation, translation_specification}
-use Rattle.machine.specs.Walk.{segment_index, page_index, segment_entry_at, past_segment_table, segment_invalid, segment_malformed, page_entry_at, past_page_table, frame_of, page_invalid, page_protected, page_malformed}
+use Rattle.machine.specs.Walk.{segment_index, page_index, segment_entry_at, past_segment_table, segment_invalid, segment_malformed, page_entry_at, past_page_table, frame_of, page_invalid, page_protected, page_malformed, TableEntry, Walk, at_frame}
 use Rattle.machine.specs.Host.{Host, Cell, host_entry, view}
 use Rattle.machine.specs.Addresses.{guest_entry, format_good}
 
@@ -33,15 +29,15 @@ pub data Way : Type 0 where
 
 -- the page entry at this address, once read
 unfoldable pub way_of_page : ℕ → TableEntry → Way
-way_of_page at (Unread f) = unread page_table f
-way_of_page at (Word e) =
+way_of_page at (Err f) = unread page_table f
+way_of_page at (Ok e) =
     cond (page_invalid e) (stops page_table at page_translation)
     (cond (page_malformed e) (stops page_table at translation_specification) (leads at e))
 
 -- the segment entry at this address, once read, for a page index. An index past the page table seeks a page entry, and reads none.
 unfoldable pub way_of_segment : (ℕ → TableEntry) → ℕ → ℕ → TableEntry → Way
-way_of_segment read at index (Unread f) = unread segment_table f
-way_of_segment read at index (Word e) =
+way_of_segment read at index (Err f) = unread segment_table f
+way_of_segment read at index (Ok e) =
     cond (segment_invalid e) (stops segment_table at segment_translation)
     (cond (segment_malformed e) (stops segment_table at translation_specification)
     (cond (past_page_table e index) (stops page_table 0 page_translation) (way_of_page (page_entry_at e index) (read (page_entry_at e index)))))
@@ -54,9 +50,9 @@ way read designation a =
 
 -- what a walk that ends so finds
 unfoldable pub found_by : (ℕ → Failure) → Way → Walk
-found_by fail (leads at e) = Page (frame_of e) (page_protected e)
-found_by fail (stops table at code) = Failed (fail code)
-found_by fail (unread table f) = Failed f
+found_by fail (leads at e) = at_frame (frame_of e) (page_protected e)
+found_by fail (stops table at code) = Err (fail code)
+found_by fail (unread table f) = Err f
 
 -- by no table
 abbrev pub nowhere : Sought

@@ -1,7 +1,5 @@
 -- What is proved of the definition, beside the worked examples and demand 3. Each statement is a type here; its proof is in proofs/.
-use Rattle.std.specs.Prelude.{ℕ, ◌+◌, ◌-◌, ◌*◌, ◌%◌, ◌^◌, ◌≤◌, ◌<◌, ◌≡◌, Bool, true, false, List, [], ◌∷◌, ◌⊎◌, length}
-use Rattle.machine.specs.declared.Answer.{Answer}
-use Rattle.machine.specs.declared.Answer.TheVariants.{Ended, Refused}
+use Rattle.std.specs.Prelude.{ℕ, ◌+◌, ◌-◌, ◌*◌, ◌%◌, ◌^◌, ◌≤◌, ◌<◌, ◌≡◌, Bool, true, false, List, [], ◌∷◌, ◌⊎◌, length, Err, Ok}
 use Rattle.machine.specs.declared.Class.TheVariants.{Spt}
 use Rattle.machine.specs.declared.Cpu.{Cpu}
 use Rattle.machine.specs.declared.End.{End}
@@ -10,14 +8,11 @@ use Rattle.machine.specs.declared.Failure.{Failure}
 use Rattle.machine.specs.declared.Guest.{Guest}
 use Rattle.machine.specs.declared.Numbers.{Numbers}
 use Rattle.machine.specs.declared.Reason.TheVariants.{External, Stop}
-use Rattle.machine.specs.declared.Verdict.TheVariants.{Accepted}
-use Rattle.machine.specs.declared.Walk.{Walk}
-use Rattle.machine.specs.declared.Walk.TheVariants.{Page, Failed}
 use Rattle.machine.specs.Words.{byte_at, half_at, double_at}
 use Rattle.machine.specs.Record.{long_length, GoodLength, version_for, psw_at, timer_at, results_at, control_at, request_at, residue_at, guest_of, cpu_of, request_of, residue_of}
 use Rattle.machine.specs.Interval.{active, period, without_t}
 use Rattle.machine.specs.Sizes.{frame_bytes}
-use Rattle.machine.specs.Refusals.{most_frames, most_units, most_time, check_verdict, translate_verdict, run_verdict}
+use Rattle.machine.specs.Refusals.{most_frames, most_units, most_time, check_verdict, translate_verdict, run_verdict, RunAnswer, no_refusal}
 use Rattle.machine.specs.Entry.{extent_bytes, entry_good}
 use Rattle.machine.specs.Psw.{wrap}
 use Rattle.machine.specs.Time.{guest_clock, comparator_due}
@@ -31,6 +26,8 @@ use Rattle.machine.specs.Execute.{storing}
 use Rattle.machine.specs.Units.{halfword, half_of, started, interval_code, stop_requested}
 use Rattle.machine.specs.Run.{Machine, goes, ends, step, host_of, unit_from, behind_of, marked_by, word_accesses, run}
 use Rattle.machine.specs.Operations.{Result, machine_of, run_of}
+use Rattle.machine.specs.Answers.{run_answer}
+use Rattle.machine.specs.Walk.{Walk, at_frame}
 
 -- the numbers with another budget
 abbrev pub with_budget : Numbers → ℕ → Numbers
@@ -52,22 +49,22 @@ pub record GoodInput (r storage keys : List ℕ) : Type 0 where
 
 -- good input is not refused
 pub record GoodInputIsAccepted : Type 0 where
-  pub by_check : (r storage keys : List ℕ) → GoodInput r storage keys → check_verdict r ≡ Accepted
-  pub by_translate : (r storage keys : List ℕ) (kind : ℕ) → GoodInput r storage keys → kind ≤ 2 → translate_verdict r storage keys kind ≡ Accepted
+  pub by_check : (r storage keys : List ℕ) → GoodInput r storage keys → check_verdict r ≡ no_refusal
+  pub by_translate : (r storage keys : List ℕ) (kind : ℕ) → GoodInput r storage keys → kind ≤ 2 → translate_verdict r storage keys kind ≡ no_refusal
   pub by_run : (n : Numbers) (r storage keys : List ℕ) → GoodInput r storage keys → n.budget ≤ most_units → 0 < n.time → n.time ≤ most_time
-      → run_verdict n r storage keys ≡ Accepted
+      → run_verdict n r storage keys ≡ no_refusal
 
 -- on a good entry a run with budget 0 uses its budget, and one with a stop request and a budget is stopped
 pub record BudgetAndStopDiffer : Type 0 where
-  pub no_budget : (n : Numbers) (r storage keys : List ℕ) → run_verdict (with_budget n 0) r storage keys ≡ Accepted → entry_good (guest_of r) ≡ true
-      → (run_of (with_budget n 0) r storage keys).answer ≡ Ended BudgetUsed 0
-  pub stopped : (n : Numbers) (r storage keys : List ℕ) → run_verdict n r storage keys ≡ Accepted → entry_good (guest_of r) ≡ true → 0 < n.budget
-      → stop_requested (guest_of r) ≡ true → (run_of n r storage keys).answer ≡ Ended (Intercepted Stop) 0
+  pub no_budget : (n : Numbers) (r storage keys : List ℕ) → run_verdict (with_budget n 0) r storage keys ≡ no_refusal → entry_good (guest_of r) ≡ true
+      → (run_of (with_budget n 0) r storage keys).answer ≡ run_answer BudgetUsed 0
+  pub stopped : (n : Numbers) (r storage keys : List ℕ) → run_verdict n r storage keys ≡ no_refusal → entry_good (guest_of r) ≡ true → 0 < n.budget
+      → stop_requested (guest_of r) ≡ true → (run_of n r storage keys).answer ≡ run_answer (Intercepted Stop) 0
 
 -- units counted on top of an answer's own
-abbrev pub on_top_of : ℕ → Answer → Answer
-on_top_of units (Refused number) = Refused number
-on_top_of units (Ended end more) = Ended end (units + more)
+abbrev pub on_top_of : ℕ → RunAnswer → RunAnswer
+on_top_of units (Err number) = Err number
+on_top_of units (Ok stopped) = run_answer stopped.end (units + stopped.units)
 
 -- the numbers with which a run is resumed after so many units
 abbrev pub resumed_with : Numbers → ℕ → ℕ → Numbers
@@ -79,11 +76,10 @@ resumed_with n units budget = record {
 }
 
 -- a run of budget `b` from what a first run of budget `a` left, where that used its budget; else the first run itself
-abbrev pub resumed_from : Numbers → ℕ → ℕ → Result → Answer → Result
-resumed_from n a b first (Refused number) = first
-resumed_from n a b first (Ended (Intercepted reason) units) = first
-resumed_from n a b first (Ended (HostFault failure) units) = first
-resumed_from n a b first (Ended BudgetUsed units) = record {
+abbrev pub resumed_at : Numbers → ℕ → ℕ → Result → ℕ → End → Result
+resumed_at n a b first units (Intercepted reason) = first
+resumed_at n a b first units (HostFault failure) = first
+resumed_at n a b first units BudgetUsed = record {
   answer = on_top_of units second.answer;
   table = second.table;
   description = second.description;
@@ -93,6 +89,10 @@ resumed_from n a b first (Ended BudgetUsed units) = record {
   where
     second : Result
     second = run_of (resumed_with n a b) first.description first.storage first.keys
+
+abbrev pub resumed_from : Numbers → ℕ → ℕ → Result → RunAnswer → Result
+resumed_from n a b first (Err refusal) = first
+resumed_from n a b first (Ok stopped) = resumed_at n a b first stopped.units stopped.end
 
 -- RESUMPTION: a run of budget a + b is a run of budget a and then, where that used its budget, a run of budget b from the record, the
 -- storage and the keys that it left, with the host clock advanced by a times the time
@@ -111,7 +111,7 @@ pub record AtSpt (n : Numbers) (m : Machine) : Type 0 where
 -- however the run ended
 abbrev pub TimerFalls : Type 0
 TimerFalls = (n : Numbers) (r storage keys : List ℕ) (end : End) (units : ℕ) → double_at r timer_at < 2 ^ 64
-    → (run_of n r storage keys).answer ≡ Ended end units
+    → (run_of n r storage keys).answer ≡ run_answer end units
     → ((i : ℕ) → i < units → AtSpt n (run i n (machine_of n r storage keys)).machine → ⊥)
     → double_at (run_of n r storage keys).description timer_at ≡ (double_at r timer_at + units * (2 ^ 64 - n.time)) % 2 ^ 64
 
@@ -137,7 +137,7 @@ ExitChargesNothing = (n : Numbers) (m after : Machine) (end : End) → GoodLengt
 -- a host fault leaves what the run of just the completed units leaves
 abbrev pub HostFaultUndoesItsUnit : Type 0
 HostFaultUndoesItsUnit = (n : Numbers) (r storage keys : List ℕ) (f : Failure) (units : ℕ)
-    → (run_of n r storage keys).answer ≡ Ended (HostFault f) units
+    → (run_of n r storage keys).answer ≡ run_answer (HostFault f) units
     → ((run_of n r storage keys).description ≡ (run_of (with_budget n units) r storage keys).description)
     × ((run_of n r storage keys).storage ≡ (run_of (with_budget n units) r storage keys).storage)
     × ((run_of n r storage keys).keys ≡ (run_of (with_budget n units) r storage keys).keys)
@@ -151,7 +151,7 @@ pub data Each (P : ℕ → Type 0) : List ℕ → Type 0 where
 pub record HasPage (behind : ℕ → Walk) (a : ℕ) : Type 0 where
   pub frame : ℕ
   pub protected : Bool
-  pub page : behind a ≡ Page frame protected
+  pub page : behind a ≡ at_frame frame protected
 
 -- no store and no mark is dropped: a host page is behind each place that a completed unit fetched from or stored into
 abbrev pub EffectsAreBacked : Type 0
@@ -170,12 +170,12 @@ MarksAreTheUnits = (n : Numbers) (m next : Machine) (c : Cpu) (e : Effects) → 
 -- the host fault of a run is the host's, and no exception of the guest
 abbrev pub FaultsAreTheHosts : Type 0
 FaultsAreTheHosts = (n : Numbers) (r storage keys : List ℕ) (f : Failure) (units : ℕ)
-    → (run_of n r storage keys).answer ≡ Ended (HostFault f) units → f.host ≡ true
+    → (run_of n r storage keys).answer ≡ run_answer (HostFault f) units → f.host ≡ true
 
 -- the unit count never exceeds the budget
 abbrev pub UnitsWithinBudget : Type 0
 UnitsWithinBudget = (n : Numbers) (r storage keys : List ℕ) (end : End) (units : ℕ)
-    → (run_of n r storage keys).answer ≡ Ended end units → units ≤ n.budget
+    → (run_of n r storage keys).answer ≡ run_answer end units → units ≤ n.budget
 
 -- lengths are kept
 pub record LengthsKept : Type 0 where
@@ -202,7 +202,7 @@ pub record SlipsRuledOut : Type 0 where
       → access x.guest x.view x.cpu true (wrap x.cpu (a + i)) ≡ denied f
       → (first : Failure) × (storing x a bytes c ≡ exception x x.cpu first)
   pub extent_before_origin : (g : Guest) (h : Host) (a : ℕ) → a < extent_bytes g → backing g h a ≡ host_page h (host_virtual g a)
-  pub past_the_extent : (g : Guest) (h : Host) (a : ℕ) → extent_bytes g ≤ a → backing g h a ≡ Failed (exception_of addressing)
+  pub past_the_extent : (g : Guest) (h : Host) (a : ℕ) → extent_bytes g ≤ a → backing g h a ≡ Err (exception_of addressing)
   pub clocks_are_unsigned : (g : Guest) (clock : ℕ) → g.comparator < guest_clock g clock → comparator_due g clock ≡ true
   pub table_reads_ignore_keys : (g : Guest) (d : ℕ) (storage keys₁ keys₂ : List ℕ) (real : ℕ)
       → guest_entry g (view g (host d storage keys₁)) real ≡ guest_entry g (view g (host d storage keys₂)) real

@@ -1,14 +1,23 @@
 -- Document 01, "Addresses": segment and page entries, and the walk that guest and host share.
 -- The tests run in the order written there.
-use Rattle.std.specs.Prelude.{ℕ, ◌+◌, ◌*◌, ◌/◌, ◌%◌, Bool, cond, ◌||◌, ltb}
+use Rattle.std.specs.Prelude.{ℕ, ◌+◌, ◌*◌, ◌/◌, ◌%◌, Bool, cond, ◌||◌, ltb, Result, Ok, Err}
 use Rattle.machine.specs.declared.Failure.{Failure}
-use Rattle.machine.specs.declared.TableEntry.{TableEntry}
-use Rattle.machine.specs.declared.TableEntry.TheVariants.{Word, Unread}
-use Rattle.machine.specs.declared.Walk.{Walk}
-use Rattle.machine.specs.declared.Walk.TheVariants.{Page, Failed}
+use Rattle.machine.specs.declared.Page.{Page}
 use Rattle.machine.specs.Sizes.{page_bytes, segment_bytes, segment_pages}
 use Rattle.machine.specs.Words.{bits, bit}
 use Rattle.machine.specs.Failures.{segment_translation, page_translation, translation_specification}
+
+-- a table entry's word, or why it cannot be read
+abbrev pub TableEntry : Type 0
+TableEntry = Result ℕ Failure
+
+-- the page that a walk finds, or why it finds none
+abbrev pub Walk : Type 0
+Walk = Result Page Failure
+
+-- a page is found
+abbrev pub at_frame : ℕ → Bool → Walk
+at_frame frame protected = Ok (record { frame = frame; protected = protected })
 
 -- a 31-bit address: segment index 11 bits, page index 8 bits, byte 12 bits
 
@@ -58,21 +67,21 @@ page_malformed e = bit 32 0 e || bit 32 20 e || bit 32 23 e
 
 -- the page entry, once read
 unfoldable pub walk_page : (ℕ → Failure) → TableEntry → Walk
-walk_page fail (Unread f) = Failed f
-walk_page fail (Word e) =
-    cond (page_invalid e) (Failed (fail page_translation))
-    (cond (page_malformed e) (Failed (fail translation_specification)) (Page (frame_of e) (page_protected e)))
+walk_page fail (Err f) = Err f
+walk_page fail (Ok e) =
+    cond (page_invalid e) (Err (fail page_translation))
+    (cond (page_malformed e) (Err (fail translation_specification)) (at_frame (frame_of e) (page_protected e)))
 
 -- the segment entry, once read, for a page index
 unfoldable pub walk_segment : (ℕ → TableEntry) → (ℕ → Failure) → ℕ → TableEntry → Walk
-walk_segment read fail index (Unread f) = Failed f
-walk_segment read fail index (Word e) =
-    cond (segment_invalid e) (Failed (fail segment_translation))
-    (cond (segment_malformed e) (Failed (fail translation_specification))
-    (cond (past_page_table e index) (Failed (fail page_translation)) (walk_page fail (read (page_entry_at e index)))))
+walk_segment read fail index (Err f) = Err f
+walk_segment read fail index (Ok e) =
+    cond (segment_invalid e) (Err (fail segment_translation))
+    (cond (segment_malformed e) (Err (fail translation_specification))
+    (cond (past_page_table e index) (Err (fail page_translation)) (walk_page fail (read (page_entry_at e index)))))
 
 -- the walk for an address: `read` reads an entry, and `fail` makes a failure of a code
 unfoldable pub walk : (ℕ → TableEntry) → (ℕ → Failure) → ℕ → ℕ → Walk
 walk read fail designation a =
-    cond (past_segment_table designation (segment_index a)) (Failed (fail segment_translation))
+    cond (past_segment_table designation (segment_index a)) (Err (fail segment_translation))
     (walk_segment read fail (page_index a) (read (segment_entry_at designation (segment_index a))))

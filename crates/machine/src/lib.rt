@@ -57,7 +57,7 @@ pub struct Numbers {
 // Why an access cannot be made: a program exception of the guest, or a host fault. The code is the program code. The
 // address is the host virtual address of a host fault, the virtual address of a guest segment or page translation
 // exception with its last 12 bits zero, and zero for every other guest exception.
-#[derive(Clone, Copy)]
+#[derive(Clone, Copy, PartialEq, Eq)]
 pub struct Failure {
     pub host: bool,
     pub code: u32,
@@ -66,7 +66,7 @@ pub struct Failure {
 
 // The table whose entry was sought when a walk ended: the guest's or the host's, for a segment or for a page; none where an access
 // fails by no entry.
-#[derive(Clone, Copy)]
+#[derive(Clone, Copy, PartialEq, Eq)]
 pub enum Stage {
     None,
     GuestSegment,
@@ -82,19 +82,18 @@ pub struct Sought {
     pub entry: u32,
 }
 
-// A table entry, or why it cannot be read.
-#[derive(Clone, Copy)]
-pub enum TableEntry {
-    Word(u32),
-    Unread(Failure),
+// A page that a walk finds: its frame, and whether it is protected.
+#[derive(Clone, Copy, PartialEq, Eq)]
+pub struct Page {
+    pub frame: u32,
+    pub protected: bool,
 }
 
+// A table entry, or why it cannot be read.
+pub type TableEntry = Result<u32, Failure>;
+
 // What a walk of a segment and a page table finds.
-#[derive(Clone, Copy)]
-pub enum Walk {
-    Page { frame: u32, protected: bool },
-    Failed(Failure),
-}
+pub type Walk = Result<Page, Failure>;
 
 // An instruction's length code, and its halfwords as far as they are fetched, the others zero.
 #[derive(Clone, Copy)]
@@ -106,7 +105,7 @@ pub struct Text {
 }
 
 // The class of an opcode: the instruction of document 01's list, by its mnemonic; one of mandatory interception; or none.
-#[derive(Clone, Copy)]
+#[derive(Clone, Copy, PartialEq, Eq)]
 pub enum Class {
     Lr,
     Ar,
@@ -159,34 +158,51 @@ pub enum End {
     BudgetUsed,
 }
 
-// Whether an operation's input is refused, and by which number.
-#[derive(Clone, Copy)]
-pub enum Verdict {
-    Accepted,
-    Refused(u32),
+// Why an operation is refused, by the number that its answer gives. Malformed is a case file's.
+#[derive(Clone, Copy, PartialEq, Eq)]
+pub enum Refusal {
+    WrongLength = 1,
+    WrongVersion = 2,
+    WrongStorage = 3,
+    WrongKeys = 4,
+    WrongBudget = 5,
+    WrongTime = 6,
+    ReservedUsed = 7,
+    WrongAccess = 8,
+    Malformed = 9,
+    OutOfReach = 10,
+    AlreadyValid = 11,
+    NotValid = 12,
+    FrameOutside = 13,
+    Entangled = 14,
+    ShortWorkspace = 15,
+    WrongRange = 16,
 }
 
-// The answer of check.
-#[derive(Clone, Copy)]
+// The answer of an operation: refused, or what it comes to.
+pub type Answer<T> = Result<T, Refusal>;
+
+// Whether an operation's input is refused.
+pub type Verdict = Answer<()>;
+
+// What check comes to.
+#[derive(Clone, Copy, PartialEq, Eq)]
 pub enum Checked {
-    Refused(u32),
     Good,
     Validity,
 }
 
-// The answer of translate: a refusal, the host absolute address, code 32, or a guest program exception or host fault, with the table
-// that was bad.
+// What translate comes to: the host absolute address, code 32, or a guest program exception or host fault, with the table that was bad.
 #[derive(Clone, Copy)]
 pub enum Translated {
-    Refused(u32),
     Address(u32),
     Validity,
     Failed { failure: Failure, sought: Sought },
 }
 
-// The answer of run: a refusal, or the end with the units completed.
+// What run comes to: its end, with the units completed.
 #[derive(Clone, Copy)]
-pub enum Answer {
-    Refused(u32),
-    Ended { end: End, units: u32 },
+pub struct Stopped {
+    pub end: End,
+    pub units: u32,
 }

@@ -1,5 +1,6 @@
 -- An operand by page is what the definition reaches byte by byte.
 -- Assumes nothing.
+use Rattle.std.specs.Prelude.{Err, Ok}
 use Prim.Native.Nat.{ℕ, ◌+◌, ◌-◌, ◌/◌, ◌%◌, ◌≤◌, ◌<◌}
 use native.Mathlib.Nat.{sub_self}
 use native.Mathlib.Omega.{arith}
@@ -13,20 +14,16 @@ use lib.Seq.{sets, take_all, length-take-le}
 use Rattle.machine.specs.declared.Cpu.{Cpu}
 use Rattle.machine.specs.declared.Failure.{Failure}
 use Rattle.machine.specs.declared.Guest.{Guest}
-use Rattle.machine.specs.declared.Walk.TheVariants.{Page}
 use Rattle.machine.specs.Psw.{wrap}
 use Rattle.machine.specs.Host.{Host, Located, places, in_frame, backing, view, stored, mark_key, marked}
 use Rattle.machine.specs.Addresses.{Access, reached, denied, access, all, stopped, accesses, span}
 use Rattle.machine.specs.Interruptions.{with_bytes, bytes_of}
 use Rattle.laws.proofs.PageBytes.{bytes_from, span-append, wrap_by_mode, span_of_wrap, joined, accesses-append, stored-append, marked_append, with_bytes-append, places-append, bytes_of-append, length-bytes_from, bytes_of-bytes_from, stored-in_page, marked-in_page}
 use Rattle.laws.proofs.Pages.{accesses-denied, backing-in_page, backing-in_storage, reached_is_backed, accesses-in_page}
-use Rattle.address.specs.declared.Place.{Place}
-use Rattle.address.specs.declared.Place.TheVariants.{At, Denied}
-use Rattle.address.specs.Touching.{placed, touched_by, touch_of}
+use Rattle.address.specs.Touching.{placed, touched_by, touch_of, Place}
 use Rattle.marks.specs.Marks.{mark_frame}
-use Rattle.operands.specs.declared.Operand.{Operand}
-use Rattle.operands.specs.declared.Operand.TheVariants.{Open, Shut}
-use Rattle.operands.specs.Operands.{in_one_page, in_two_pages, to_page_end, operand_of, Opened}
+use Rattle.operands.specs.Operands.{in_one_page, in_two_pages, to_page_end, operand_of, Opened, Operand, in_pieces}
+use Rattle.machine.specs.Walk.{at_frame}
 
 module _ (g : Guest) (h : Host) where
   -- the n bytes that were reached stand at p, in one frame
@@ -38,7 +35,7 @@ module _ (g : Guest) (h : Host) where
     marks : (mark : ℕ → ℕ) → ((k : ℕ) → mark (mark k) ≡ mark k) → (keys : List ℕ)
         → marked (backing g h) mark (places ls) keys ≡ mark_frame mark (p / 4096) keys
 
-  run-in_page : (a n : ℕ) {frame : ℕ} {protected : Bool} → backing g h a ≡ Page frame protected → 0 < n → a % 4096 + n ≤ 4096
+  run-in_page : (a n : ℕ) {frame : ℕ} {protected : Bool} → backing g h a ≡ at_frame frame protected → 0 < n → a % 4096 + n ≤ 4096
       → Run n (bytes_from h.storage a (in_frame frame a) n) (in_frame frame a)
   unfolding mark_key
   run-in_page a n {frame} {protected} backed some inside =
@@ -56,7 +53,7 @@ module _ (g : Guest) (h : Host) where
       fits : p + n ≤ length h.storage
       fits = omega (arith, backing-in_storage g h a backed)
 
-      page : (i : ℕ) → a ≤ i → i < a + n → backing g h i ≡ Page frame protected
+      page : (i : ℕ) → a ≤ i → i < a + n → backing g h i ≡ at_frame frame protected
       page i low high = backing-in_page g h a i backed (omega arith)
 
       number : frame ≡ p / 4096
@@ -99,8 +96,8 @@ module _ (g : Guest) (h : Host) where
 
     -- what is reached of n bytes from a on, all in one page, by where the first stands
     abbrev Part : ℕ → ℕ → Place → Type 0
-    Part a n (Denied f) = accesses one (span c a n) ≡ stopped f
-    Part a n (At p) = (ls : List Located) × (accesses one (span c a n) ≡ all ls) × Run n ls p
+    Part a n (Err f) = accesses one (span c a n) ≡ stopped f
+    Part a n (Ok p) = (ls : List Located) × (accesses one (span c a n) ≡ all ls) × Run n ls p
 
     part : (a n : ℕ) → wrap c a ≡ a → 0 < n → a % 4096 + n ≤ 4096 → Part a n (touch_of g h c store a)
     unfolding touched_by placed
@@ -127,19 +124,19 @@ module _ (g : Guest) (h : Host) where
     module _ (a n : ℕ) where
       -- what is reached of the operand, by where it stands
       abbrev Whole : Operand → Type 0
-      Whole (Shut f) = accesses one (span c a n) ≡ stopped f
-      Whole (Open p m q) = (ls : List Located) × (accesses one (span c a n) ≡ all ls) × Opened g h n ls p m q
+      Whole (Err f) = accesses one (span c a n) ≡ stopped f
+      Whole (Ok at) = (ls : List Located) × (accesses one (span c a n) ≡ all ls) × Opened g h n ls at.first at.count at.second
 
       whole_in_one : (x : Place) → Part a n x → Whole (in_one_page n x)
       unfolding in_one_page
-      whole_in_one (Denied f) e = e
-      whole_in_one (At p) (ls, e, run) = (ls, e, opened_by_one n p run)
+      whole_in_one (Err f) e = e
+      whole_in_one (Ok p) (ls, e, run) = (ls, e, opened_by_one n p run)
 
       whole_in_two : (m : ℕ) (x y : Place) → m < n → Part a m x → Part (wrap c (a + m)) (n - m) y → Whole (in_two_pages m x y)
       unfolding in_two_pages joined
-      whole_in_two m (Denied f) y more e later = in_parts a m n (omega arith) ∙ rw e
-      whole_in_two m (At p) (Denied f) more (ls, e, run) later = in_parts a m n (omega arith) ∙ rw (e, later)
-      whole_in_two m (At p) (At q) more (ls, e, run) (ms, d, later) =
+      whole_in_two m (Err f) y more e later = in_parts a m n (omega arith) ∙ rw e
+      whole_in_two m (Ok p) (Err f) more (ls, e, run) later = in_parts a m n (omega arith) ∙ rw (e, later)
+      whole_in_two m (Ok p) (Ok q) more (ls, e, run) (ms, d, later) =
           (ls ++ ms, in_parts a m n (omega arith) ∙ rw (e, d), opened_by_two n m p q more run later)
 
       module _ (wrapped : wrap c a ≡ a) (some : 0 < n) (small : n ≤ 4096) where
@@ -165,9 +162,9 @@ module _ (g : Guest) (h : Host) where
                 whole_in_two (to_page_end a) _ _ more (part a (to_page_end a) wrapped (omega arith) (omega arith))
                 (part next (n - to_page_end a) next_is_wrapped (omega arith) (omega (arith, next_starts_page)))
 
-        pub operand_shut : {f : Failure} → operand_of g h c store a n ≡ Shut f → accesses (access g (view g h) c store) (span c a n) ≡ stopped f
+        pub operand_shut : {f : Failure} → operand_of g h c store a n ≡ Err f → accesses (access g (view g h) c store) (span c a n) ≡ stopped f
         operand_shut e = subst Whole e whole
 
-        pub operand_open : {p m q : ℕ} → operand_of g h c store a n ≡ Open p m q
+        pub operand_open : {p m q : ℕ} → operand_of g h c store a n ≡ in_pieces p m q
             → (ls : List Located) × (accesses (access g (view g h) c store) (span c a n) ≡ all ls) × Opened g h n ls p m q
         operand_open e = subst Whole e whole

@@ -1,5 +1,5 @@
 -- An operand of n bytes by page: it stands on one page or on two.
-use Rattle.std.specs.Prelude.{ℕ, ◌+◌, ◌-◌, ◌%◌, ◌≤◌, ◌≡◌, Bool, cond, List, ◌++◌, leb, length, take, drop}
+use Rattle.std.specs.Prelude.{ℕ, ◌+◌, ◌-◌, ◌%◌, ◌≤◌, ◌≡◌, Bool, cond, List, ◌++◌, leb, length, take, drop, Err, Ok, Result}
 use Rattle.std.proofs.lemmas.List.Edits.{sets}
 use Rattle.machine.specs.declared.Cpu.{Cpu}
 use Rattle.machine.specs.declared.Guest.{Guest}
@@ -7,21 +7,26 @@ use Rattle.machine.specs.Sizes.{page_bytes}
 use Rattle.machine.specs.Psw.{wrap}
 use Rattle.machine.specs.Host.{Host, Located, places, backing, stored, marked}
 use Rattle.machine.specs.Interruptions.{with_bytes, bytes_of}
-use Rattle.address.specs.declared.Place.{Place}
-use Rattle.address.specs.declared.Place.TheVariants.{At, Denied}
-use Rattle.address.specs.Touching.{touch_of}
+use Rattle.machine.specs.declared.Failure.{Failure}
+use Rattle.pieces.specs.declared.Pieces.{Pieces}
+use Rattle.address.specs.Touching.{touch_of, Place}
 use Rattle.marks.specs.Marks.{mark_operand}
-use Rattle.operands.specs.declared.Operand.{Operand}
-use Rattle.operands.specs.declared.Operand.TheVariants.{Open, Shut}
+
+-- where an operand stands in host storage, or why it cannot be reached
+abbrev pub Operand : Type 0
+Operand = Result Pieces Failure
+
+abbrev pub in_pieces : ℕ → ℕ → ℕ → Operand
+in_pieces first count second = Ok (record { first = first; count = count; second = second })
 
 unfoldable pub in_one_page : ℕ → Place → Operand
-in_one_page n (Denied f) = Shut f
-in_one_page n (At p) = Open p n 0
+in_one_page n (Err f) = Err f
+in_one_page n (Ok p) = in_pieces p n 0
 
 unfoldable pub in_two_pages : ℕ → Place → Place → Operand
-in_two_pages m (Denied f) y = Shut f
-in_two_pages m (At p) (Denied f) = Shut f
-in_two_pages m (At p) (At q) = Open p m q
+in_two_pages m (Err f) y = Err f
+in_two_pages m (Ok p) (Err f) = Err f
+in_two_pages m (Ok p) (Ok q) = in_pieces p m q
 
 -- the bytes of a page from an address on
 abbrev pub to_page_end : ℕ → ℕ

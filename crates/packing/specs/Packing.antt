@@ -1,12 +1,11 @@
 -- Answers packed into a number of 64 bits, and what stands at the caller's place afterwards. include/drevokas.h says the same to C.
-use Rattle.std.specs.Prelude.{ℕ, ◌+◌, ◌*◌, ◌%◌, ◌^◌}
-use Rattle.machine.specs.declared.Answer.{Answer}
-use Rattle.machine.specs.declared.Answer.TheVariants as answer
+use Rattle.std.specs.Prelude.{ℕ, ◌+◌, ◌*◌, ◌%◌, ◌^◌, Err, Ok}
 use Rattle.machine.specs.declared.End.{End}
 use Rattle.machine.specs.declared.End.TheVariants as end
 use Rattle.machine.specs.declared.Sought.{Sought}
-use Rattle.machine.specs.Answers.{reason_code, end_address, stage_number}
+use Rattle.machine.specs.Answers.{refusal_number, reason_code, end_address, stage_number}
 use Rattle.machine.specs.Sought.{nowhere}
+use Rattle.machine.specs.Refusals.{RunAnswer}
 
 -- the kind in bits 0-7, its number in bits 8-15, the stage in bits 16-23, bits 24-31 zero, the units completed in bits 32-63
 abbrev pub packed : ℕ → ℕ → Sought → ℕ → ℕ
@@ -45,11 +44,11 @@ packed_end (end.Intercepted r) s units = packed intercepted_kind (reason_code r)
 packed_end (end.HostFault f) s units = packed host_fault_kind f.code s units
 packed_end end.BudgetUsed s units = packed budget_kind 0 s units
 
-unfoldable pub packed_answer : Answer → Sought → ℕ
-packed_answer (answer.Refused number) s = packed refused_kind number nowhere 0
-packed_answer (answer.Ended e units) s = packed_end e s units
+unfoldable pub packed_answer : RunAnswer → Sought → ℕ
+packed_answer (Err refusal) s = packed refused_kind (refusal_number refusal) nowhere 0
+packed_answer (Ok stopped) s = packed_end stopped.end s stopped.units
 
 -- the host virtual address of a host fault, else zero; a refusal leaves what stood there
-unfoldable pub place_after_run : Answer → Sought → ℕ → ℕ
-place_after_run (answer.Refused number) s before = before
-place_after_run (answer.Ended e units) s before = placed s (end_address e)
+unfoldable pub place_after_run : RunAnswer → Sought → ℕ → ℕ
+place_after_run (Err number) s before = before
+place_after_run (Ok stopped) s before = placed s (end_address stopped.end)

@@ -3,49 +3,51 @@
 #![tactic(auto)]
 
 ghost use Rattle.std.specs.Prelude.{◌≡◌, ◌+◌, ◌*◌, ◌%◌, ◌<◌};
-ghost use Rattle.machine.specs.Answers.{reason_code, end_address, stage_number};
+ghost use Rattle.machine.specs.Answers.{refusal_number, reason_code, end_address, stage_number};
 ghost use Rattle.machine.specs.Sought.{nowhere};
-ghost use Rattle.packing.specs.Packing.{packed, packed_end, packed_answer, place_after_run};
+ghost use Rattle.packing.specs.Packing.{refused_kind, packed, packed_end, packed_answer, place_after_run};
+ghost use Rattle.packing.specs.Kinds.{kind_number};
 
-use machine::{Answer, End, Reason, Sought, Stage};
+use machine::{Answer, End, Reason, Refusal, Sought, Stage, Stopped};
 
-const REFUSED: u64 = 0;
-
-const INTERCEPTED: u64 = 1;
-
-const HOST_FAULT: u64 = 2;
-
-const BUDGET_USED: u64 = 3;
-
-// The number of a stage.
-fn stage_number(stage: Stage) -> u64
-    ensures { (result ≡ stage_number stage) × (result < 5) }
-{
-    match stage {
-        Stage::None => 0,
-        Stage::GuestSegment => 1,
-        Stage::GuestPage => 2,
-        Stage::HostSegment => 3,
-        Stage::HostPage => 4,
-    }
+// What an answer is, by the number in its bits 0-7.
+#[derive(Clone, Copy, PartialEq, Eq)]
+pub enum Kind {
+    Refused = 0,
+    Intercepted = 1,
+    HostFault = 2,
+    BudgetUsed = 3,
+    Exception = 4,
+    Good = 5,
+    None = 6,
 }
 
+// One in the places of kind, number and stage.
+const KIND: u64 = 1 << 56;
+
+const NUMBER: u64 = 1 << 48;
+
+const STAGE: u64 = 1 << 40;
+
 // An answer with its stage, without units.
-pub fn pack_staged(kind: u64, number: u32, stage: Stage) -> u64
-    requires { kind < 256 }
-    ensures { (result ≡ packed kind number (record { stage = stage; entry = 0 }) 0) × (result % 4294967296 ≡ 0) }
+pub fn pack_staged(kind: Kind, number: u32, stage: Stage) -> u64
+    ensures { (result ≡ packed (kind_number kind) number (record { stage = stage; entry = 0 }) 0) × (result % 4294967296 ≡ 0) }
 {
-    kind * 72057594037927936
-        + (number % 256) as u64 * 281474976710656
-        + stage_number(stage) * 1099511627776
+    kind as u64 * KIND + (number % 256) as u64 * NUMBER + stage as u64 * STAGE
 }
 
 // An answer that has no table, without units.
-pub fn pack(kind: u64, number: u32) -> u64
-    requires { kind < 256 }
-    ensures { result ≡ packed kind number nowhere 0 }
+pub fn pack(kind: Kind, number: u32) -> u64
+    ensures { result ≡ packed (kind_number kind) number nowhere 0 }
 {
-    kind * 72057594037927936 + (number % 256) as u64 * 281474976710656
+    pack_staged(kind, number, Stage::None)
+}
+
+// A refusal.
+pub fn pack_refusal(refusal: Refusal) -> u64
+    ensures { result ≡ packed refused_kind (refusal_number refusal) nowhere 0 }
+{
+    pack(Kind::Refused, refusal as u32)
 }
 
 // The address of a table entry and an address of the answer, as they stand at the caller's place.
@@ -61,11 +63,7 @@ fn reason_code(reason: Reason) -> u32
 {
     match reason {
         Reason::Instruction(_) => 4,
-        Reason::Program {
-            code: _,
-            ilc: _,
-            address: _,
-        } => 8,
+        Reason::Program { .. } => 8,
         Reason::ExternalRequest => 16,
         Reason::External(_) => 20,
         Reason::IoRequest => 24,
@@ -82,19 +80,19 @@ fn pack_end(end: End, s: Sought, units: u32) -> u64
     let stage = s.stage;
     match end {
         End::Intercepted(reason) => {
-            pack_staged(INTERCEPTED, reason_code(reason), stage) + units as u64
+            pack_staged(Kind::Intercepted, reason_code(reason), stage) + units as u64
         }
-        End::HostFault(f) => pack_staged(HOST_FAULT, f.code, stage) + units as u64,
-        End::BudgetUsed => pack_staged(BUDGET_USED, 0, stage) + units as u64,
+        End::HostFault(f) => pack_staged(Kind::HostFault, f.code, stage) + units as u64,
+        End::BudgetUsed => pack_staged(Kind::BudgetUsed, 0, stage) + units as u64,
     }
 }
 
-pub fn pack_answer(x: Answer, s: Sought) -> u64
+pub fn pack_answer(x: Answer<Stopped>, s: Sought) -> u64
     ensures { result ≡ packed_answer x s }
 {
     match x {
-        Answer::Refused(number) => pack(REFUSED, number),
-        Answer::Ended { end, units } => pack_end(end, s, units),
+        Err(refusal) => pack_refusal(refusal),
+        Ok(Stopped { end, units }) => pack_end(end, s, units),
     }
 }
 
@@ -102,18 +100,17 @@ fn end_address(end: End) -> u32
     ensures { result ≡ end_address end }
 {
     match end {
-        End::Intercepted(_) => 0,
         End::HostFault(f) => f.address,
-        End::BudgetUsed => 0,
+        End::Intercepted(_) | End::BudgetUsed => 0,
     }
 }
 
 // What stands at the caller's place after a run.
-pub fn place_after_run(x: Answer, s: Sought, old: u64) -> u64
+pub fn place_after_run(x: Answer<Stopped>, s: Sought, old: u64) -> u64
     ensures { result ≡ place_after_run x s old }
 {
     match x {
-        Answer::Refused(_) => old,
-        Answer::Ended { end, units: _ } => placed(s.entry, end_address(end)),
+        Err(_) => old,
+        Ok(Stopped { end, .. }) => placed(s.entry, end_address(end)),
     }
 }

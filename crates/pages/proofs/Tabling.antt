@@ -1,5 +1,6 @@
 -- What a table of kept blocks promises when blocks are dropped and one is entered.
 -- Assumes nothing.
+use Rattle.std.specs.Prelude.{Ok}
 use Prim.Native.Nat.{ℕ, ◌+◌, ◌*◌, ◌/◌, ◌%◌, ◌≤◌, ◌<◌}
 use native.Mathlib.Omega.{arith}
 use mathlib.Core.Path.{◌≡◌, refl, sym, ap, ◌∙◌, subst}
@@ -16,7 +17,6 @@ use Rattle.machine.specs.declared.Psw.{Psw}
 use Rattle.machine.specs.declared.Registers.{Registers}
 use Rattle.machine.specs.Refusals.{frames_of}
 use Rattle.machine.specs.Host.{host}
-use Rattle.address.specs.declared.Place.TheVariants.{At}
 use Rattle.address.specs.Touching.{seen, touch_of}
 use Rattle.guard.specs.Guarding.{Wider, Alike}
 use Rattle.guard.proofs.Guarded.{alike_narrower}
@@ -169,7 +169,7 @@ module _ (d : ℕ) (g : Guest) (psw : Psw) (control : Registers) (s k guard guar
       }
 
   -- a block is entered that an access finds, with a guard that names the frames which decide the access
-  pub tables_entered : (store : Bool) (a p : ℕ) → frames_of s ≤ length k → touch_of g (host d s k) (seen psw control) store a ≡ At p → Marked store (get_or k (p / 4096) 0)
+  pub tables_entered : (store : Bool) (a p : ℕ) → frames_of s ≤ length k → touch_of g (host d s k) (seen psw control) store a ≡ Ok p → Marked store (get_or k (p / 4096) 0)
       → ((t k : List ℕ) (store : Bool) → Alike guard' s t → touch_of g (host d t k) (seen psw control) store a ≡ touch_of g (host d s k) (seen psw control) store a)
       → (store ≡ true → get_or guard' (p / 4096 % 64) 0 ≡ 0) → length kept' ≡ 32 → Tables d g psw control s k guard kept guard' kept'
       → Tables d g psw control s k guard kept guard' (entered kept' store a p)

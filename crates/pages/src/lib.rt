@@ -6,7 +6,6 @@ ghost use Rattle.std.specs.Prelude.{◌≡◌, true, ◌≤◌, ◌<◌, length}
 ghost use Rattle.machine.specs.Refusals.{frames_of};
 ghost use Rattle.machine.specs.Host.{host};
 ghost use Rattle.storage.specs.Entered.{Entered};
-ghost use Rattle.address.specs.declared.Place.{Place};
 ghost use Rattle.address.specs.Touching.{seen, touch_of};
 ghost use Rattle.blocks.specs.Keeping.{Free};
 ghost use Rattle.pages.specs.Tabling.{Tables, Marked, Fewer, entry_at, entered};
@@ -21,29 +20,18 @@ pub const NO_BLOCK: u32 = 2147483648;
 fn has_marks(key: u8, store: bool) -> bool
     ensures { result ≡ true → Marked store key }
 {
-    if key / 4 % 2 != 1 {
-        return false;
-    }
-    if store {
-        return key / 2 % 2 == 1;
-    }
-    true
+    key / 4 % 2 == 1 && (!store || key / 2 % 2 == 1)
 }
 
 // Drops the blocks that are stored into and lie in a frame that the guard names.
-pub fn spare(guard: &[u8], kept: &mut [u32; 32])
-    requires { (length guard.now ≡ 64) × (length kept.old ≡ 32) }
-    ensures { Fewer kept.old kept.new × Free guard.now kept.new × (length kept.new ≡ 32) }
+pub fn spare(guard: &[u8; 64], kept: &mut [u32; 32])
+    ensures { Fewer kept.old kept.new × Free guard.now kept.new }
 {
-    let mut i: usize = 0;
-    while i < 8 {
-        let at = 16 + i;
-        let placed = 24 + i;
-        let frame = kept[placed] / 4096 % 64;
+    for i in 0..8 {
+        let frame = kept[24 + i] / 4096 % 64;
         if guard[frame as usize] != 0 {
-            kept[at] = NO_BLOCK;
+            kept[16 + i] = NO_BLOCK;
         }
-        i += 1;
     }
 }
 
@@ -52,10 +40,7 @@ fn entry_at(store: bool, a: u32) -> usize
     ensures { (result ≡ entry_at store a) × (result < 24) }
 {
     let i = (a / 2048 % 8) as usize;
-    if store {
-        return 16 + i;
-    }
-    i
+    if store { 16 + i } else { i }
 }
 
 // Enters the block of an address that leads to a place.
@@ -63,21 +48,15 @@ fn enter(kept: &mut [u32; 32], store: bool, a: u32, p: u32)
     ensures { kept.new ≡ entered kept.old store a p }
 {
     let i = entry_at(store, a);
-    let placed = 8 + i;
     kept[i] = a / 2048 * 2048;
-    kept[placed] = p / 2048 * 2048;
+    kept[8 + i] = p / 2048 * 2048;
 }
-
-// A table has 32 words: of one by value that is known, of one behind a reference it is not.
-fn counted(kept: [u32; 32])
-    ensures { length kept ≡ 32 }
-{}
 
 // Keeps the block of an address that leads to a place, where its marks are made, and, for stores, the guard does not name its frame.
 fn keep_at(
     storage: &[u8],
     keys: &[u8],
-    guard: &mut [u8],
+    guard: &mut [u8; 64],
     kept: &mut [u32; 32],
     designation: u32,
     guest: Guest,
@@ -87,21 +66,18 @@ fn keep_at(
     a: u32,
     p: u32,
 ) -> bool
-    requires { Entered guest × (frames_of storage.now ≤ length keys.now) × (length guard.old ≡ 64)
-        × (touch_of guest (host designation storage.now keys.now) (seen psw control) store a ≡ Place.At p) }
+    requires { Entered guest × (frames_of storage.now ≤ length keys.now)
+        × (touch_of guest (host designation storage.now keys.now) (seen psw control) store a ≡ Ok p) }
     ensures { Tables designation guest psw control storage.now keys.now guard.old kept.old guard.new kept.new }
 {
     let frame = p / 4096;
     if !has_marks(keys[frame as usize], store) {
         return false;
     }
-    counted(*kept);
     guard::name_access(storage, guard, designation, guest, psw, control, a);
     spare(guard, kept);
-    if store {
-        if guard[(frame % 64) as usize] != 0 {
-            return false;
-        }
+    if store && guard[(frame % 64) as usize] != 0 {
+        return false;
     }
     enter(kept, store, a, p);
     true
@@ -111,7 +87,7 @@ fn keep_at(
 pub fn keep(
     storage: &[u8],
     keys: &[u8],
-    guard: &mut [u8],
+    guard: &mut [u8; 64],
     kept: &mut [u32; 32],
     designation: u32,
     guest: Guest,
@@ -120,12 +96,12 @@ pub fn keep(
     store: bool,
     a: u32,
 ) -> bool
-    requires { Entered guest × (frames_of storage.now ≤ length keys.now) × (a < 2147483648) × (length guard.old ≡ 64) }
+    requires { Entered guest × (frames_of storage.now ≤ length keys.now) × (a < 2147483648) }
     ensures { Tables designation guest psw control storage.now keys.now guard.old kept.old guard.new kept.new }
 {
     match address::touch(storage, keys, designation, guest, psw, control, store, a) {
-        Place::Denied(_) => false,
-        Place::At(p) => keep_at(
+        Err(_) => false,
+        Ok(p) => keep_at(
             storage,
             keys,
             guard,

@@ -1,4 +1,5 @@
 -- What is known of an input that is accepted, of a guest that entry lets through, and of a change that is.
+use Rattle.std.specs.Prelude.{Err}
 use Prim.Native.Nat.{ℕ, ◌+◌, ◌*◌, ◌≤◌, ◌<◌}
 use native.Mathlib.Omega.{arith}
 use mathlib.Core.Path.{◌≡◌, refl, ap, ◌∙◌}
@@ -8,12 +9,11 @@ use borrow.Author.Tests.{leb-false, ltb-false, le-leb, lt-leb, eqb-true, not-fal
 use lib.Dec.{eqb, leb, ltb}
 use lib.ListN.{length}
 use Rattle.machine.specs.declared.Guest.{Guest}
-use Rattle.machine.specs.declared.Verdict.{Verdict}
-use Rattle.machine.specs.declared.Verdict.TheVariants.{Accepted, Refused}
+use Rattle.machine.specs.declared.Refusal.TheVariants.{WrongVersion, WrongStorage, WrongKeys, ReservedUsed, OutOfReach, Entangled}
 use Rattle.machine.specs.Words.{byte_at, word_at}
 use Rattle.machine.specs.Record.{record_length, long_length, GoodLength, version_for, guest_of}
 use Rattle.machine.specs.Sizes.{frame_bytes}
-use Rattle.machine.specs.Refusals.{most_frames, refuse, wrong_length, wrong_version, wrong_storage, wrong_keys, reserved_used, wrong_access, translate_verdict}
+use Rattle.machine.specs.Refusals.{most_frames, refuse, wrong_length, wrong_version, wrong_storage, wrong_keys, reserved_used, wrong_access, translate_verdict, Verdict, no_refusal}
 use Rattle.machine.specs.Entry.{entry_good}
 use Rattle.machine.specs.Frames.{page_of}
 use Rattle.machine.proofs.Entry.{entry-placed}
@@ -26,7 +26,7 @@ use Rattle.desk.specs.Reach.{page_reached, page_valid}
 use Rattle.desk.specs.Extent.{first_page, page_count}
 use Rattle.desk.specs.Desk.{out_of_reach, state_verdict, entangled, change_verdict, desk_verdict}
 use Rattle.desk.proofs.Changes.{neither, StateFits, state_fits}
-use Rattle.tables.specs.Tabling.{outside, PageAt, word_valid}
+use Rattle.tables.specs.Tabling.{PageThere, word_valid}
 use Rattle.changes.specs.Changing.{FrameFits}
 use Rattle.paging.specs.Giving.{Placed, Ready}
 
@@ -35,14 +35,14 @@ pub desk_verdict_lem : (r s k : List ℕ) → desk_verdict r s k ≡ translate_v
 unfolding desk_verdict translate_verdict wrong_access
 desk_verdict_lem r s k = refl
 
-module _ (r s k : List ℕ) (accepted : desk_verdict r s k ≡ Accepted) where
-  after-length : refuse 2 (wrong_version r) (refuse 3 (wrong_storage s) (refuse 4 (wrong_keys s k) (refuse 7 (reserved_used r) Accepted))) ≡ Accepted
+module _ (r s k : List ℕ) (accepted : desk_verdict r s k ≡ no_refusal) where
+  after-length : refuse WrongVersion (wrong_version r) (refuse WrongStorage (wrong_storage s) (refuse WrongKeys (wrong_keys s k) (refuse ReservedUsed (reserved_used r) no_refusal))) ≡ no_refusal
   unfolding desk_verdict
-  after-length = (accepted_test 1 (wrong_length r) _ accepted).1
+  after-length = (accepted_test _ (wrong_length r) _ accepted).1
 
   right_length : GoodLength r
   unfolding desk_verdict
-  right_length = length_of_right r (accepted_test 1 (wrong_length r) _ accepted).0
+  right_length = length_of_right r (accepted_test _ (wrong_length r) _ accepted).0
 
   pub accepted-long : record_length ≤ length r
   accepted-long = good_length r right_length
@@ -51,7 +51,7 @@ module _ (r s k : List ℕ) (accepted : desk_verdict r s k ≡ Accepted) where
   pub accepted_version : eqb (length r) long_length ≡ eqb (guest_of r).version 2
   unfolding wrong_version guest_of
   accepted_version =
-      let is : byte_at r 2 ≡ version_for (length r) = eqb-true _ _ (not-false _ (accepted_test 2 (wrong_version r) _ after-length).0) in
+      let is : byte_at r 2 ≡ version_for (length r) = eqb-true _ _ (not-false _ (accepted_test _ (wrong_version r) _ after-length).0) in
       rw is (by_length (eqb (length r) long_length))
     where
       by_length : (b : Bool) → b ≡ eqb (cond b 2 1) 2
@@ -61,7 +61,7 @@ module _ (r s k : List ℕ) (accepted : desk_verdict r s k ≡ Accepted) where
   pub accepted-small : length s ≤ 16777216
   unfolding wrong_storage
   accepted-small =
-      let right = (accepted_test 3 (wrong_storage s) _ (accepted_test 2 (wrong_version r) _ after-length).1).0 in
+      let right = (accepted_test _ (wrong_storage s) _ (accepted_test _ (wrong_version r) _ after-length).1).0 in
       let two = (neither (eqb (length s) 0 || ltb (most_frames * frame_bytes) (length s)) _ right).0 in
       ltb-false _ _ (neither (eqb (length s) 0) _ two).1
 
@@ -71,11 +71,11 @@ entered-low g good = let sum = (entry-placed g good).sum in omega arith
 
 -- a change that is let through
 module _ (c : Change) (first pages d : ℕ) (s : List ℕ) (p : ℕ) (placed : Placed first pages s) where
-  pub let_through : change_verdict c first pages d s p ≡ Accepted
+  pub let_through : change_verdict c first pages d s p ≡ no_refusal
       → ((first + p < 524288) × (length s ≤ 16777216)) × ((page_reached d s (first + p) ≡ true) × FrameFits c)
   unfolding change_verdict out_of_reach
   let_through accepted =
-      let (near, second) = accepted_test 10 (out_of_reach first pages d s p) _ accepted in
+      let (near, second) = accepted_test _ (out_of_reach first pages d s p) _ accepted in
       let (inside, reached) = neither (leb pages p) _ near in
       let below : p < pages = leb-false _ _ inside in
       ((omega (arith, placed.low), placed.small), (not-false _ reached, frame_fits c (state_fits c s (page_valid d s (first + p)) _ second).0))
@@ -91,32 +91,32 @@ unfolding page_valid word_valid
 valid_of_reached d s page reached = rw reached
 
 -- the verdict on a change, by the page's entry
-module _ (c : Change) (first pages d : ℕ) (s : List ℕ) (p at : ℕ) (placed : Placed first pages s) (inside : p < pages) (told : PageAt d s (first + p) at)
-    (low : at < outside) (v : Verdict) (judged : (later : Verdict) → state_verdict c s (word_valid (word_at s at)) later ≡ first_refusal v later) where
+module _ (c : Change) (first pages d : ℕ) (s : List ℕ) (p at : ℕ) (placed : Placed first pages s) (inside : p < pages) (told : PageThere d s (first + p) at)
+    (v : Verdict) (judged : (later : Verdict) → state_verdict c s (word_valid (word_at s at)) later ≡ first_refusal v later) where
   valid_there : page_valid d s (first + p) ≡ word_valid (word_at s at)
-  valid_there = valid_of_reached d s (first + p) (told.reached low) ∙ ap (λ a. word_valid (word_at s a)) (told.place low)
+  valid_there = valid_of_reached d s (first + p) told.reached ∙ ap (λ a. word_valid (word_at s a)) told.place
 
-  pub ready_to_change : v ≡ Accepted → Ready c first pages d s p at
+  pub ready_to_change : v ≡ no_refusal → Ready c first pages d s p at
   unfolding first_refusal
   ready_to_change accepted = record {
     placed = placed;
     inside = inside;
-    reached = told.reached low;
-    is = told.place low;
-    fits = told.fits low;
-    state = rw valid_there (state_fits c s (word_valid (word_at s at)) Accepted (judged Accepted ∙ rw accepted)).0;
+    reached = told.reached;
+    is = told.place;
+    fits = told.fits;
+    state = rw valid_there (state_fits c s (word_valid (word_at s at)) no_refusal (judged no_refusal ∙ rw accepted)).0;
   }
 
-  pub verdict_by_state : change_verdict c first pages d s p ≡ first_refusal v (refuse 14 (entangled c first pages d s p) Accepted)
+  pub verdict_by_state : change_verdict c first pages d s p ≡ first_refusal v (refuse Entangled (entangled c first pages d s p) no_refusal)
   unfolding change_verdict out_of_reach
-  verdict_by_state = rw (lt-leb pages p inside, told.reached low, valid_there) (judged _)
+  verdict_by_state = rw (lt-leb pages p inside, told.reached, valid_there) (judged _)
 
 -- the verdict out of reach
 module _ (c : Change) (first pages d : ℕ) (s : List ℕ) (p : ℕ) where
-  pub outside_the_extent : pages ≤ p → change_verdict c first pages d s p ≡ Refused 10
+  pub outside_the_extent : pages ≤ p → change_verdict c first pages d s p ≡ Err OutOfReach
   unfolding change_verdict out_of_reach
   outside_the_extent h = rw (le-leb pages p h)
 
-  pub not_in_reach : (at : ℕ) → p < pages → PageAt d s (first + p) at → outside ≤ at → change_verdict c first pages d s p ≡ Refused 10
+  pub not_in_reach : p < pages → page_reached d s (first + p) ≡ false → change_verdict c first pages d s p ≡ Err OutOfReach
   unfolding change_verdict out_of_reach
-  not_in_reach at inside told high = rw (lt-leb pages p inside, told.missed high)
+  not_in_reach inside missed = rw (lt-leb pages p inside, missed)

@@ -1,13 +1,16 @@
 -- Laws of refusal 14: the marks tell it of the tables as they are, and it is the definition's of the tables after the change.
-use Prim.Native.Nat.{ℕ, zero, suc, ◌+◌, ◌-◌, ◌/◌, ◌^◌, ◌≤◌, ◌<◌}
+use Prim.Native.Nat.{ℕ, zero, suc, ◌+◌, ◌-◌, ◌/◌, ◌≤◌, ◌<◌}
 use native.Mathlib.Omega.{arith}
 use mathlib.Core.Path.{◌≡◌, refl, sym, ap, ◌∙◌, subst}
-use mathlib.Core.Bool.{Bool, true, false, cond, ◌&&◌, ◌||◌}
+use mathlib.Core.Bool.{Bool, true, false, ◌&&◌, ◌||◌}
 use mathlib.Core.List.{List}
 use mathlib.Core.Logic.{◌⊎◌, inl, inr, ⊎_elim}
 use borrow.Author.Tests.{ltb-true, ltb-false, lt-ltb, eqb-true, eqb-false, eq-eqb, ne_eqb}
 use lib.Dec.{eqb, ltb}
-use lib.ListN.{length, get_or, set, replicate}
+use lib.ListN.{length, get_or, set, take, replicate}
+use borrow.Author.Rules.{rules}
+use Rattle.std.specs.Prelude.{Option, Some, None, IsSome}
+use Rattle.std.proofs.lemmas.List.{set_past}
 use Rattle.machine.specs.Words.{word_at}
 use Rattle.machine.specs.Sizes.{frame_bytes}
 use Rattle.machine.specs.Refusals.{frames_of}
@@ -33,20 +36,21 @@ use Rattle.paging.specs.Giving.{Ready}
 
 -- no frame is marked at first
 
-zeros_only : (n f : ℕ) → ◌≡◌ {A = ℕ} (get_or (replicate n 0) f 0) 0
-zeros_only zero f = refl
-zeros_only (suc n) zero = refl
-zeros_only (suc n) (suc f) = zeros_only n f
+none_true : (m n f : ℕ) → get_or (take m (replicate n false)) f false ≡ false
+none_true zero n f = refl
+none_true (suc m) zero f = refl
+none_true (suc m) (suc n) zero = refl
+none_true (suc m) (suc n) (suc f) = none_true m n f
 
-pub unmarked : (n f : ℕ) → Marked (replicate {A = ℕ} n 0) f → ⊥
-unmarked n f h = omega (arith, zeros_only n f)
+pub unmarked : (m n f : ℕ) → Marked (take m (replicate n false)) f → ⊥
+unmarked m n f h = never_both h (none_true m n f)
 
 -- the marks of all pages but the own one, and of the frame
-module _ (d : ℕ) (s : List ℕ) (from to own frame : ℕ) (zeros : List ℕ) (none : (f : ℕ) → Marked zeros f → ⊥) where
-  pub marks_tell : (frames : ℕ) (a b : List ℕ) (answer : Bool) → frames ≡ frames_of s → frames ≤ length b
-      → Added (SomePage (Names d s) from own) zeros a → Added (SomePage (Names d s) (own + 1) to) a b
-      → Tells (EntryMarked d s from to (cond (ltb frame frames) (set b frame 1) b)) answer → Tells (Meets d s from to own frame) answer
-  marks_tell frames a b answer is long first second tells = record {
+module _ (d : ℕ) (s : List ℕ) (from to own frame : ℕ) (zeros : List Bool) (none : (f : ℕ) → Marked zeros f → ⊥) where
+  pub marks_tell : (a b : List Bool) (answer : Bool) → length b ≡ frames_of s → Added (SomePage (Names d s) from own) zeros a
+      → Added (SomePage (Names d s) (own + 1) to) a b → Tells (EntryMarked d s from to (set b frame true)) answer
+      → Tells (Meets d s from to own frame) answer
+  marks_tell a b answer long first second tells = record {
     so = λ e.
         let m = tells.so e in
         let n = name m.frame m.marked in
@@ -54,9 +58,6 @@ module _ (d : ℕ) (s : List ℕ) (from to own frame : ℕ) (zeros : List ℕ) (
     never = λ e m. tells.never e (record { frame = m.place; entry = m.entry; marked = mark m.place (omega (arith, m.low)) m.named });
   }
     where
-      later : List ℕ
-      later = cond (ltb frame frames) (set b frame 1) b
-
       Named : ℕ → Type 0
       Named f = (SomePage (Names d s) from own f ⊎ SomePage (Names d s) (own + 1) to f) ⊎ (frame ≡ f)
 
@@ -67,20 +68,22 @@ module _ (d : ℕ) (s : List ℕ) (from to own frame : ℕ) (zeros : List ℕ) (
           (λ p. (p.is.1.1, inl (inr p)))
           (second.new f h)
 
-      name : (f : ℕ) → Marked later f → (f < frames_of s) × Named f
-      name f = true_or_false _ (ltb frame frames)
-          (λ e h.
-          let low = ltb-true frame frames e in
-          ⊎_elim (earlier f) (λ q. (omega arith, inr q)) ((added_one b frame (omega arith)).new f (rw e at h)))
-          (λ e h. earlier f (rw e at h))
+      -- a frame past the storage is not marked
+      past : length b ≤ frame → set b frame true ≡ b
+      past h = set_past b frame true h
 
-      kept : (f : ℕ) → Marked b f → Marked later f
-      kept f m = true_or_false _ (ltb frame frames) (λ e. rw e ((added_one b frame (omega (arith, ltb-true frame frames e))).kept f m)) (λ e. rw e m)
+      name : (f : ℕ) → Marked (set b frame true) f → (f < frames_of s) × Named f
+      name f h = true_or_false _ (ltb frame (length b))
+          (λ e. let low = ltb-true _ _ e in ⊎_elim (earlier f) (λ q. (omega arith, inr q)) ((added_one b frame low).new f h))
+          (λ e. earlier f (rw (past (ltb-false _ _ e)) at h))
 
-      mark : (f : ℕ) → f < frames → Named f → Marked later f
+      kept : (f : ℕ) → Marked b f → Marked (set b frame true) f
+      kept f m = true_or_false _ (ltb frame (length b)) (λ e. (added_one b frame (ltb-true _ _ e)).kept f m) (λ e. rw (past (ltb-false _ _ e)) m)
+
+      mark : (f : ℕ) → f < frames_of s → Named f → Marked (set b frame true) f
       mark f small (inl (inl p)) = kept f (second.kept f (first.all f p))
       mark f small (inl (inr p)) = kept f (second.all f p)
-      mark f small (inr q) = let e = lt-ltb frame frames (omega arith) in rw e ((added_one b frame (omega arith)).all f q)
+      mark f small (inr q) = (added_one b frame (omega arith)).all f q
 
 -- what the page of a call names after the change
 record OwnName (c : Change) (d : ℕ) (s : List ℕ) (page : ℕ) : Type 0 where
@@ -295,5 +298,6 @@ module _ (c : Change) (first pages d : ℕ) (s : List ℕ) (p place : ℕ) (read
       only_left false e = e
 
 -- an entry that is in reach stands somewhere
-pub there : (d : ℕ) (s : List ℕ) (page at : ℕ) → PageAt d s page at → page_reached d s page ≡ true → at < 2 ^ 32
-there d s page at told reached = true_or_false _ (ltb at (2 ^ 32)) (λ e. ltb-true at (2 ^ 32) e) (λ e. never_both reached (told.missed (ltb-false at (2 ^ 32) e)))
+pub there : (d : ℕ) (s : List ℕ) (page : ℕ) (at : Option ℕ) → PageAt d s page at → page_reached d s page ≡ true → IsSome at
+there d s page None told reached = never_both reached told
+there d s page (Some at) told reached = search rules

@@ -7,15 +7,16 @@ use Rattle.desk.specs.declared.Listed.{Listed}
 use Rattle.desk.specs.Reach.{page_reached, page_valid}
 use Rattle.desk.specs.Desk.{Result, Listing}
 use Rattle.desk.proofs.Changes.{StateFits}
+use Rattle.machine.specs.Refusals.{Answer}
 
 -- a call answered, and left storage and number, as a result says
-pub record Gives (result : Result) (a : Called) (storage : List ℕ) (number : ℕ) : Type 0 where
+pub record Gives (result : Result) (a : Answer Called) (storage : List ℕ) (number : ℕ) : Type 0 where
   pub answer : a ≡ result.answer
   pub bytes : storage ≡ result.storage
   pub count : number ≡ result.number
 
 -- a listing answered, and left the workspace, as it says
-pub record Lists (result : Listing) (a : Listed) (words : List ℕ) : Type 0 where
+pub record Lists (result : Listing) (a : Answer Listed) (words : List ℕ) : Type 0 where
   pub answer : a ≡ result.answer
   pub shown : words ≡ result.words
 

@@ -2,49 +2,43 @@
 // contract equates answer, storage, number and workspace with desk's definition, for every input, refused input too.
 #![tactic(auto)]
 
-ghost use Rattle.std.specs.Prelude.{◌≡◌, true, List, ℕ, ◌+◌, ◌≤◌, ◌<◌, length};
-ghost use Rattle.machine.specs.Refusals.{refuse};
-ghost use Rattle.refusals.specs.Parts.{first_refusal};
+ghost use Rattle.std.specs.Prelude.{◌≡◌, true, ◌+◌, ◌≤◌, ◌<◌, length};
 ghost use Rattle.desk.specs.Reach.{page_reached};
 ghost use Rattle.desk.specs.Extent.{first_page, page_count};
-ghost use Rattle.desk.specs.Desk.{storage_after, entangled, change_verdict, desk_verdict, change_as, change_of, desk_as, desk_of, list_for, list_as, list_of};
-ghost use Rattle.desk.specs.Unbacked.{unbacked_as, unbacked_of};
+ghost use Rattle.desk.specs.Desk.{storage_after, entangled, change_verdict, change_of, desk_of, list_for, list_of};
+ghost use Rattle.desk.specs.Unbacked.{unbacked_of};
 ghost use Rattle.survey.specs.Marking.{Tells};
 ghost use Rattle.changes.specs.Changing.{FrameFits};
 ghost use Rattle.paging.specs.Meeting.{Meets};
 ghost use Rattle.paging.specs.Giving.{Gives, Lists, Placed, Ready};
 
 use desk::{Called, Change, Found, Listed};
-use machine::{Guest, Verdict};
+use machine::{Answer, Guest, Refusal, Verdict};
+use tables::{Host, Pages};
 
 const LONG_RECORD: usize = 208;
 
 const FRAME: usize = 4096;
 
-// Host pages of a block of origin and extent.
-const BLOCK_PAGES: u32 = 16;
-
-// Numbers from here on say that an entry is out of reach.
-const OUTSIDE: u64 = 4294967296;
-
-// The numbers of the refusals.
-const OUT_OF_REACH: u32 = 10;
-
-const ENTANGLED: u32 = 14;
-
-const SHORT_WORKSPACE: u32 = 15;
-
-// Whether an entry of the host pages from one up to another lies in a frame that another page than own names, or in this frame.
-fn tables_meet(storage: &[u8], designation: u32, from: u32, to: u32, own: u32, frame: u32) -> bool
-    requires { ((from ≤ own) × (own < to)) × ((to ≤ 524288) × (length storage.now ≤ 16777216)) }
-    ensures { Tells (Meets designation storage.now from to own frame) result }
+// Whether an entry of these host pages lies in a frame that another page than own names, or in this frame.
+fn tables_meet(host: Host, pages: Pages, own: u32, frame: u32) -> bool
+    requires { ((pages.from ≤ own) × (own < pages.to)) × (length host.storage.now ≤ 16777216) }
+    ensures { Tells (Meets host.entry.designation host.entry.storage.now pages.from pages.to own frame) result }
 {
-    let mut entries = [0u32; 256];
-    let mut names = [0u8; 4096];
-    survey::mark_pages(storage, designation, from, own, &mut entries, &mut names);
-    survey::mark_pages(storage, designation, own + 1, to, &mut entries, &mut names);
-    survey::mark_frame(frame, storage.len() / FRAME, &mut names);
-    survey::entries_marked(storage, designation, from, to, &names)
+    let mut marks = [false; 4096];
+    let marks = &mut marks[..host.storage.len() / FRAME];
+    let before = Pages {
+        from: pages.from,
+        to: own,
+    };
+    let after = Pages {
+        from: own + 1,
+        to: pages.to,
+    };
+    survey::mark_pages(host, before, marks);
+    survey::mark_pages(host, after, marks);
+    survey::mark_frame(frame as usize, marks);
+    survey::entries_marked(host, pages, marks)
 }
 
 // Whether the change would leave an entry in a guest frame, or is that of an entry that serves twice.
@@ -55,51 +49,23 @@ fn entangled(
     first: u32,
     pages: u32,
     p: u32,
-    place: u32,
+    place: usize,
 ) -> bool
     requires { Ready c first pages designation storage.now p place }
     ensures { result ≡ entangled c first pages designation storage.now p }
 {
     let own = first + p;
-    let to = first + pages;
-    if sharing::shares(storage, designation, first, to, own, place) {
-        return true;
-    }
-    let entry = words::word_at(storage, place as usize);
-    tables_meet(
+    let host = Host {
         storage,
         designation,
-        first,
-        to,
-        own,
-        changes::frame_after(c, entry),
-    )
-}
-
-// The verdict on a change, once that on the page's state is known.
-fn verdict_in_state(
-    storage: &[u8],
-    c: Change,
-    designation: u32,
-    first: u32,
-    pages: u32,
-    p: u32,
-    place: u32,
-    v: Verdict,
-) -> Verdict
-    requires { v ≡ Verdict.Accepted → Ready c first pages designation storage.now p place }
-    ensures { result ≡ first_refusal v (refuse 14 (entangled c first pages designation storage.now p) Verdict.Accepted) }
-{
-    match v {
-        Verdict::Refused(number) => Verdict::Refused(number),
-        Verdict::Accepted => {
-            if entangled(storage, c, designation, first, pages, p, place) {
-                Verdict::Refused(ENTANGLED)
-            } else {
-                Verdict::Accepted
-            }
-        }
-    }
+    };
+    let extent = Pages {
+        from: first,
+        to: first + pages,
+    };
+    let entry = words::word_at(storage, place);
+    sharing::shares(host, extent, own, place)
+        || tables_meet(host, extent, own, changes::frame_after(c, entry))
 }
 
 // The verdict on a change of a page of the extent.
@@ -115,15 +81,21 @@ fn change_verdict(
     ensures { result ≡ change_verdict c first pages designation storage.now p }
 {
     if p >= pages {
-        return Verdict::Refused(OUT_OF_REACH);
+        return Err(Refusal::OutOfReach);
     }
-    let at = tables::entry_at(storage, designation, first + p);
-    if at >= OUTSIDE {
-        return Verdict::Refused(OUT_OF_REACH);
+    let host = Host {
+        storage,
+        designation,
+    };
+    let Some(place) = host.entry_at(first + p) else {
+        return Err(Refusal::OutOfReach);
+    };
+    let valid = tables::says_valid(words::word_at(storage, place));
+    changes::state_verdict(c, storage.len() / FRAME, valid)?;
+    if entangled(storage, c, designation, first, pages, p, place) {
+        return Err(Refusal::Entangled);
     }
-    let valid = tables::says_valid(words::word_at(storage, at as usize));
-    let v = changes::state_verdict(c, storage.len() / FRAME, valid);
-    verdict_in_state(storage, c, designation, first, pages, p, at as u32, v)
+    Ok(())
 }
 
 // Writes the entry of a host page after the change.
@@ -131,32 +103,13 @@ fn put_change(storage: &mut [u8], c: Change, designation: u32, page: u32)
     requires { ((page < 524288) × (length storage.old ≤ 16777216)) × ((page_reached designation storage.old page ≡ true) × FrameFits c) }
     ensures { storage.new ≡ storage_after c designation storage.old page }
 {
-    let at = tables::entry_at(storage, designation, page) as usize;
+    let host = Host {
+        storage,
+        designation,
+    };
+    let at = host.entry_at(page).unwrap();
     let entry = words::word_at(storage, at);
     words::put_word(storage, at, changes::entry_after(c, entry));
-}
-
-// The change of a page of the extent, once the verdict on it is known.
-fn change_as(
-    storage: &mut [u8],
-    c: Change,
-    designation: u32,
-    first: u32,
-    p: u32,
-    number: &mut u32,
-    v: Verdict,
-) -> Called
-    requires { v ≡ Verdict.Accepted → ((first + p < 524288) × (length storage.old ≤ 16777216)) × ((page_reached designation storage.old (first + p) ≡ true) × FrameFits c) }
-    ensures { Gives (change_as c designation storage.old (first + p) number.old v) result storage.new number.new }
-{
-    match v {
-        Verdict::Refused(refusal) => Called::Refused(refusal),
-        Verdict::Accepted => {
-            put_change(storage, c, designation, first + p);
-            *number = changes::number_after(c, *number);
-            Called::Done
-        }
-    }
 }
 
 // The change of a page of a guest that entry lets through.
@@ -167,33 +120,15 @@ fn change_of(
     designation: u32,
     p: u32,
     number: &mut u32,
-) -> Called
+) -> Answer<Called>
     requires { Placed (first_page guest) (page_count guest) storage.old }
     ensures { Gives (change_of c guest designation storage.old p number.old) result storage.new number.new }
 {
-    let first = guest.origin as u32 * BLOCK_PAGES;
-    let pages = guest.extent as u32 * BLOCK_PAGES;
-    let v = change_verdict(storage, c, designation, first, pages, p);
-    change_as(storage, c, designation, first, p, number, v)
-}
-
-// A change, once the input is accepted.
-fn change_accepted(
-    r: &[u8],
-    storage: &mut [u8],
-    c: Change,
-    designation: u32,
-    p: u32,
-    number: &mut u32,
-) -> Called
-    requires { (k : List ℕ) × (desk_verdict r.now storage.old k ≡ Verdict.Accepted) }
-    ensures { Gives (desk_as c r.now designation storage.old p number.old Verdict.Accepted) result storage.new number.new }
-{
-    let guest = records::guest_of(r);
-    if !entry::entry_good(guest, r.len() == LONG_RECORD) {
-        return Called::Validity;
-    }
-    change_of(storage, c, guest, designation, p, number)
+    let extent = Pages::of_extent(guest);
+    change_verdict(storage, c, designation, extent.from, extent.count(), p)?;
+    put_change(storage, c, designation, extent.from + p);
+    *number = changes::number_after(c, *number);
+    Ok(Called::Done)
 }
 
 // Adds, removes or protects a page of the extent, and counts it.
@@ -205,60 +140,49 @@ pub fn change(
     designation: u32,
     p: u32,
     number: &mut u32,
-) -> Called
+) -> Answer<Called>
     ensures { Gives (desk_of c r.now designation storage.old keys.now p number.old) result storage.new number.new }
 {
-    match refusals::desk_verdict(r, storage, keys) {
-        Verdict::Refused(refusal) => Called::Refused(refusal),
-        Verdict::Accepted => change_accepted(r, storage, c, designation, p, number),
+    refusals::desk_verdict(r, storage, keys)?;
+    let guest = records::guest_of(r);
+    if !entry::entry_good(guest, r.len() == LONG_RECORD) {
+        return Ok(Called::Validity);
     }
+    change_of(storage, c, guest, designation, p, number)
 }
 
 // The listing of a guest that entry lets through.
-fn list_for(storage: &[u8], guest: Guest, designation: u32, words: &mut [u32]) -> Listed
+fn list_for(storage: &[u8], guest: Guest, designation: u32, words: &mut [u32]) -> Answer<Listed>
     requires { first_page guest + page_count guest ≤ 524288 }
     ensures { Lists (list_for guest designation storage.now words.old) result words.new }
 {
-    let first = guest.origin as u32 * BLOCK_PAGES;
-    let pages = guest.extent as u32 * BLOCK_PAGES;
-    if words.len() < pages as usize {
-        return Listed::Refused(SHORT_WORKSPACE);
+    let extent = Pages::of_extent(guest);
+    if words.len() < extent.count() as usize {
+        return Err(Refusal::ShortWorkspace);
     }
-    Listed::Pages(listings::list(storage, designation, first, pages, words))
-}
-
-// A listing, once the input is accepted.
-fn list_accepted(r: &[u8], storage: &[u8], designation: u32, words: &mut [u32]) -> Listed
-    requires { (k : List ℕ) × (desk_verdict r.now storage.now k ≡ Verdict.Accepted) }
-    ensures { Lists (list_as r.now designation storage.now words.old Verdict.Accepted) result words.new }
-{
-    let guest = records::guest_of(r);
-    if !entry::entry_good(guest, r.len() == LONG_RECORD) {
-        return Listed::Validity;
-    }
-    list_for(storage, guest, designation, words)
+    let host = Host {
+        storage,
+        designation,
+    };
+    Ok(Listed::Pages(listings::list(host, extent, words)))
 }
 
 // Lists the frames of the guest's pages into the words of a workspace, in page order.
-pub fn list(r: &[u8], storage: &[u8], keys: &[u8], designation: u32, words: &mut [u32]) -> Listed
+pub fn list(
+    r: &[u8],
+    storage: &[u8],
+    keys: &[u8],
+    designation: u32,
+    words: &mut [u32],
+) -> Answer<Listed>
     ensures { Lists (list_of r.now designation storage.now keys.now words.old) result words.new }
 {
-    match refusals::desk_verdict(r, storage, keys) {
-        Verdict::Refused(refusal) => Listed::Refused(refusal),
-        Verdict::Accepted => list_accepted(r, storage, designation, words),
-    }
-}
-
-// The lowest page from one up to another that is not valid, once the input is accepted.
-fn unbacked_accepted(r: &[u8], storage: &[u8], designation: u32, from: u32, to: u32) -> Found
-    requires { (k : List ℕ) × (desk_verdict r.now storage.now k ≡ Verdict.Accepted) }
-    ensures { result ≡ unbacked_as r.now designation storage.now from to Verdict.Accepted }
-{
+    refusals::desk_verdict(r, storage, keys)?;
     let guest = records::guest_of(r);
     if !entry::entry_good(guest, r.len() == LONG_RECORD) {
-        return Found::Validity;
+        return Ok(Listed::Validity);
     }
-    backing::unbacked_for(storage, guest, designation, from, to)
+    list_for(storage, guest, designation, words)
 }
 
 // Finds the lowest page of the extent, from one up to another, that is not valid.
@@ -269,11 +193,17 @@ pub fn first_unbacked(
     designation: u32,
     from: u32,
     to: u32,
-) -> Found
+) -> Answer<Found>
     ensures { result ≡ unbacked_of r.now designation storage.now keys.now from to }
 {
-    match refusals::desk_verdict(r, storage, keys) {
-        Verdict::Refused(refusal) => Found::Refused(refusal),
-        Verdict::Accepted => unbacked_accepted(r, storage, designation, from, to),
+    refusals::desk_verdict(r, storage, keys)?;
+    let guest = records::guest_of(r);
+    if !entry::entry_good(guest, r.len() == LONG_RECORD) {
+        return Ok(Found::Validity);
     }
+    let host = Host {
+        storage,
+        designation,
+    };
+    backing::unbacked_for(host, guest, from, to)
 }

@@ -1,5 +1,5 @@
 -- What addressing looks at, and prefixing by number: an address of 32 bits, or an exception from 2^33 on.
-use Rattle.std.specs.Prelude.{ℕ, ◌+◌, ◌*◌, ◌^◌, ◌≤◌, ◌≡◌, cond, ltb}
+use Rattle.std.specs.Prelude.{ℕ, ◌*◌, ◌^◌, ◌≡◌, cond, ltb}
 use Rattle.machine.specs.declared.Cpu.{Cpu}
 use Rattle.machine.specs.declared.Guest.{Guest}
 use Rattle.machine.specs.Words.{bits, bit}
@@ -8,7 +8,7 @@ use Rattle.machine.specs.Entry.{extent_bytes}
 use Rattle.machine.specs.Psw.{dat_on, access_key, control}
 use Rattle.machine.specs.Failures.{addressing}
 use Rattle.machine.specs.Host.{host_virtual}
-use Rattle.prefixing.specs.declared.Space.{Space}
+use Rattle.prefixing.specs.declared.space.Space.{Space}
 
 -- the space is that of a guest and a CPU; of the PSW's left word addressing asks DAT and the access key
 pub record Sees (s : Space) (g : Guest) (c : Cpu) : Type 0 where
@@ -19,11 +19,6 @@ pub record Sees (s : Space) (g : Guest) (c : Cpu) : Type 0 where
   pub key : bits 32 8 11 s.left ≡ access_key c
   pub cr0 : s.cr0 ≡ control c 0
   pub cr1 : s.cr1 ≡ control c 1
-
--- the space is that of a guest that entry lets through
-pub record Fits (s : Space) : Type 0 where
-  pub space : s.origin + s.extent ≤ 2 ^ 31
-  pub prefix : s.prefix + page_bytes ≤ s.extent
 
 -- a guest program exception: its code from bit 33 on, counted from the right
 abbrev pub exception_number : ℕ → ℕ

@@ -1,41 +1,14 @@
--- An operand whose bytes are copied in two parts, or stand in one.
+-- An operand whose bytes stand in one part.
 -- Assumes nothing.
-use Prim.Native.Nat.{ℕ, ◌+◌, ◌-◌, ◌≤◌, ◌<◌}
-use native.Mathlib.Nat.{le_of_eq}
+use Prim.Native.Nat.{ℕ, ◌+◌, ◌≤◌, ◌<◌}
 use native.Mathlib.Omega.{arith}
-use mathlib.Core.Path.{◌≡◌, sym, ap, ◌∙◌}
+use mathlib.Core.Path.{◌≡◌, sym, ◌∙◌}
 use mathlib.Core.Bool.{Bool}
-use mathlib.Core.List.{List, [], ◌++◌, append-nil}
-use borrow.Rule.Slice.PartMut.{put_mid}
-use lib.ListN.{length, take, drop, length-drop, drop_of_length-le, get_or-append}
-use lib.Seq.{length-take-le, length_front, take_at, drop_at, get_or-take, get_or-drop}
+use mathlib.Core.List.{List, ◌++◌}
+use lib.ListN.{length, take, drop, length-drop, get_or-append}
+use lib.Seq.{length-take-le, length_front, take_at, get_or-take, get_or-drop}
 use Rattle.machine.specs.Words.{byte_at, word_at, double_at}
 use Rattle.machine.specs.Record.{psw_of}
-use Rattle.writer.proofs.Parts.{part_to_end}
-
--- a front part and the part behind it, put back with other elements
-two_parts : {A : Type 0} (l p q : List A) (n : ℕ) → length p ≡ n → put_mid n (length (p ++ drop n l) - n) (p ++ drop n l) q ≡ p ++ q
-two_parts l p q n long =
-    let all = p ++ drop n l in
-    let none : drop (length all - n) (drop n all) ≡ [] = drop_of_length-le (drop n all) (le_of_eq (length-drop n all)) in
-    rw (none, take_at p (drop n l) n long, append-nil q)
-
--- A front part that was copied from storage.
-module _ (s bytes p q : List ℕ) (first count second : ℕ) (few : count ≤ length bytes) (fits : first + count ≤ length s)
-    (copied : p ≡ take (length (take count bytes)) (drop first s)) where
-  front : p ≡ take count (drop first s)
-  front = copied ∙ ap (λ n. take n (drop first s)) (length-take-le count bytes few)
-
-  front_length : length p ≡ count
-  front_length = ap length front ∙ length-take-le count (drop first s) (omega (arith, length-drop first s))
-
-  -- the bytes that are copied to the front and behind it are the operand
-  pub operand_of_parts : q ≡ take (length (take (length (p ++ drop count bytes) - count) (drop count (p ++ drop count bytes)))) (drop second s)
-      → put_mid count (length (p ++ drop count bytes) - count) (p ++ drop count bytes) q ≡ take count (drop first s) ++ take (length bytes - count) (drop second s)
-  operand_of_parts copied =
-      let size = ap length (part_to_end (p ++ drop count bytes) count ∙ drop_at p (drop count bytes) count front_length) ∙ length-drop count bytes in
-      two_parts bytes p q count front_length
-      ∙ (λ i. front i ++ (copied ∙ ap (λ n. take n (drop second s)) size) i)
 
 -- A list whose first n elements were put back.
 module _ {A : Type 0} (l p : List A) (n : ℕ) (few : n ≤ length l) (same : length p ≡ length (take n l)) where

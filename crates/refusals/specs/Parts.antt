@@ -1,20 +1,23 @@
 -- Parts that machine's verdicts are made of: refusals 1 and 2, and 7; and how parts are put together.
-use Rattle.std.specs.Prelude.{ℕ, List}
-use Rattle.machine.specs.declared.Verdict.{Verdict}
-use Rattle.machine.specs.declared.Verdict.TheVariants.{Accepted, Refused}
-use Rattle.machine.specs.Refusals.{refuse, wrong_length, wrong_version, wrong_interval, reserved_used}
+use Rattle.std.specs.Prelude.{ℕ, List, Err, Ok}
+use Rattle.machine.specs.declared.Refusal.TheVariants.{WrongLength, WrongVersion, ReservedUsed}
+use Rattle.machine.specs.Refusals.{refuse, wrong_length, wrong_version, used, wrong_interval, reserved_used, Verdict, no_refusal}
 
 -- the first of two verdicts that refuses
 unfoldable pub first_refusal : Verdict → Verdict → Verdict
-first_refusal Accepted later = later
-first_refusal (Refused number) later = Refused number
+first_refusal (Ok _) later = later
+first_refusal (Err number) later = Err number
 
 unfoldable pub head_verdict : List ℕ → Verdict
-head_verdict r = refuse 1 (wrong_length r) (refuse 2 (wrong_version r) Accepted)
+head_verdict r = refuse WrongLength (wrong_length r) (refuse WrongVersion (wrong_version r) no_refusal)
+
+-- of refusal 7: the bytes that every record has
+unfoldable pub bytes_verdict : List ℕ → Verdict
+bytes_verdict r = refuse ReservedUsed (used r 66 6) no_refusal
 
 unfoldable pub reserved_verdict : List ℕ → Verdict
-reserved_verdict r = refuse 7 (reserved_used r) Accepted
+reserved_verdict r = refuse ReservedUsed (reserved_used r) no_refusal
 
 -- of refusal 7: the interval timer's fields
 unfoldable pub interval_verdict : List ℕ → Verdict
-interval_verdict r = refuse 7 (wrong_interval r) Accepted
+interval_verdict r = refuse ReservedUsed (wrong_interval r) no_refusal

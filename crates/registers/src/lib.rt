@@ -9,10 +9,8 @@ ghost use Rattle.machine.specs.Execute.{load_register, sum_code, summed, add, su
 ghost use Rattle.interruptions.specs.After.{WithKeys};
 ghost use Rattle.execute.specs.Reaching.{Ready, Does};
 
-use interruptions::{Done, Frames, Interruption};
+use interruptions::{Done, FIXED_POINT_OVERFLOW, Frames, Interruption};
 use machine::{Cpu, Failure, Guest, Psw, Text};
-
-const OVERFLOW: u32 = 8;
 
 // LOAD (LR).
 pub fn load_register(keys: &mut [u8], cpu: Cpu, text: Text, t: Frames) -> Done
@@ -68,7 +66,7 @@ fn summed(
     if interrupts(cpu.psw, cpu::condition_code(coded) == 3) {
         let f = Failure {
             host: false,
-            code: OVERFLOW,
+            code: FIXED_POINT_OVERFLOW,
             address: 0,
         };
         let done = interruptions::with_general(cpu, coded, i, value);
@@ -158,20 +156,9 @@ pub fn supervisor_call(
         code: 136,
         new: 96,
         word: text.ilc as u32 * 131072 + text.first as u32 % 256,
-        address: 0,
-        long: false,
+        address: None,
     };
     let psw = cpu::advanced(cpu.psw, text.ilc as u32);
-    let took = interruptions::take(
-        storage,
-        keys,
-        designation,
-        guest.prefix,
-        guest.origin,
-        guest.extent,
-        psw,
-        i,
-        t,
-    );
+    let took = interruptions::take(storage, keys, designation, guest, psw, i, t);
     interruptions::interrupted(cpu.psw, interruptions::with_psw(cpu, psw), took)
 }

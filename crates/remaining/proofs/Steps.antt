@@ -11,7 +11,7 @@ use Rattle.machine.specs.declared.Guest.{Guest}
 use Rattle.machine.specs.declared.Numbers.{Numbers}
 use Rattle.machine.specs.declared.Reason.{Reason}
 use Rattle.machine.specs.Words.{bit}
-use Rattle.machine.specs.Record.{record_length, system370_mode, is_system370, guest_of, cpu_of, with_cpu, request_of, with_request, with_interval}
+use Rattle.machine.specs.Record.{record_length, system370_mode, is_system370, guest_of, cpu_of, with_cpu, request_of, with_request, with_interval, Bounded}
 use Rattle.machine.specs.Interval.{active, pending, without_t}
 use Rattle.machine.specs.Time.{clock_after, charged}
 use Rattle.machine.specs.Host.{Host, host, backing, view, stored}
@@ -19,7 +19,6 @@ use Rattle.machine.specs.Outcomes.{Outcome, completed, intercepted, faulted}
 use Rattle.machine.specs.Units.{unit}
 use Rattle.machine.specs.Run.{Machine, host_of, requested_by, unit_from, behind_of, marked_by, after_unit, after_interception, clears_t, answered, goes, ends, ticked, step_of, step, run}
 use Rattle.machine.proofs.Laws.{guest_of-with_cpu}
-use Rattle.machine.specs.Record.{Bounded}
 use Rattle.machine.proofs.Runs.{more}
 use Rattle.machine.proofs.Timer.{asked_for}
 use Rattle.laws.proofs.Lens.{cpu_of-with_cpu, with_cpu-with_cpu}

@@ -2,10 +2,10 @@
 // units, the timer's request byte and its residue are in hand, and the record is out of the loop.
 #![tactic(auto)]
 
-ghost use Rattle.std.specs.Prelude.{◌≡◌, ℕ, ◌≤◌, ◌<◌, List, length};
+ghost use Rattle.std.specs.Prelude.{◌≡◌, ◌&&◌, ℕ, ◌≤◌, ◌<◌, List, length};
 ghost use Rattle.machine.specs.declared.Numbers.{Numbers};
 ghost use Rattle.machine.specs.Refusals.{most_time, frames_of};
-ghost use Rattle.machine.specs.Interval.{period};
+ghost use Rattle.machine.specs.Interval.{period, pending};
 ghost use Rattle.machine.specs.Record.{system370_mode};
 ghost use Rattle.storage.specs.Entered.{Entered};
 ghost use Rattle.run.specs.Running.{Runs};
@@ -21,6 +21,13 @@ pub struct Ended {
     pub units: u32,
     pub request: u8,
     pub residue: u32,
+}
+
+// The interval timer, where it is active, requests an interruption.
+fn requests(active: bool, request: u8) -> bool
+    ensures { result ≡ (active && pending request) }
+{
+    active && interval::pending(request)
 }
 
 // At most budget units of a guest from a state, a host clock, and the timer's request byte and residue, which mean nothing where the
@@ -50,7 +57,7 @@ pub fn run(
     let mut rest = residue;
     let mut pace = Pace { wait: 0, pause: 0 };
     while units < budget {
-        let requested = streaks::both(active, interval::pending(asked));
+        let requested = requests(active, asked);
         let streak = streaks::paced_streak(
             storage,
             keys,
@@ -84,11 +91,10 @@ pub fn run(
                 asked,
                 rest,
             );
-            let end = step.end;
             cpu = step.cpu;
             asked = step.request;
             rest = step.residue;
-            if !step.completed {
+            if let Some(end) = step.end {
                 return Ended {
                     end,
                     cpu,

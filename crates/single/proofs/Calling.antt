@@ -26,7 +26,7 @@ use Rattle.steps.specs.Texting.{done_as}
 use Rattle.steps.proofs.Reading.{length_one}
 use Rattle.area.specs.Keeping.{Placed}
 use Rattle.calls.specs.Calling.{Interrupts, Calling}
-use Rattle.special.specs.Performing.{called}
+use Rattle.special.specs.declared.Change.TheVariants.{Called}
 use Rattle.single.specs.Deciding.{Calls}
 use Rattle.single.proofs.Deciding.{svc_decides}
 
@@ -54,7 +54,7 @@ call_keeps c x of_cpu = interrupt_keeps c x _ _ _ _ (ap (λ k. k.psw.system370) 
 module _ (g : Guest) (area : ℕ) (psw : Psw) (timer number : ℕ) (storage : List ℕ) (new : Psw) (storage' : List ℕ) where
   -- SVC
   pub called_leaves : intercepts_svc g number ≡ false → Placed area → Interrupts area psw (Calling number) supervisor_call storage new storage'
-      → Calls g area psw timer number storage (record { want = called; a = 0; left = new.left; right = new.right; timer = timer }) storage'
+      → Calls g area psw timer number storage (record { change = Called; left = new.left; right = new.right; timer = timer }) storage'
   unfolding intercepts left_by
   called_leaves free placed interrupts guard h x clock c text first stands timed is fields =
       let standing = (stands placed).standing in

@@ -33,10 +33,11 @@ use Rattle.lap.specs.declared.Landing.{Landing}
 use Rattle.lap.specs.Stepping.{cut, Lands}
 use Rattle.lap.proofs.Placing.{cut_is_wrap}
 use Rattle.area.specs.Keeping.{Area}
-use Rattle.special.specs.declared.Single.{Single}
+use Rattle.special.specs.declared.Done.{Done}
 use Rattle.special.specs.Performing.{psw_in}
 use Rattle.special.specs.Singling.{start, Singles}
-use Rattle.single.specs.Deciding.{sum_of, Operates, Calls}
+use Rattle.single.specs.declared.Operation.{Operation}
+use Rattle.single.specs.Deciding.{number, sum_of, Operates, Calls}
 
 -- an instruction address has 31 bits at most
 pub address_small : (c : Cpu) → instruction_address c < 2147483648
@@ -59,7 +60,7 @@ module _ (storage kept : List ℕ) (inside : Inside storage kept) (psw : Psw) (l
   pub text_inside : (l.base + 2048 ≤ length storage) × (l.base < 2147483648)
   text_inside = (omega (arith, lands.base, stands.inside), omega (arith, lands.base, stands.small))
 
-  module _ (whole : at ≤ l.base + 2044) (words : List ℕ) (sixteen : length words ≡ 16) (g : Guest) (clock timer : ℕ) (control : List ℕ) (area : ℕ) (r : Single) (control' storage' : List ℕ)
+  module _ (whole : at ≤ l.base + 2044) (words : List ℕ) (sixteen : length words ≡ 16) (g : Guest) (clock timer : ℕ) (control : List ℕ) (area : ℕ) (d : Done) (control' storage' : List ℕ)
       (op registers : ℕ) (opcode : byte_at storage at ≡ op) (fields : byte_at storage (at + 1) ≡ registers) (byte : registers < 256) where
     abbrev first : ℕ
     first = op * 256 + registers
@@ -107,7 +108,7 @@ module _ (storage kept : List ℕ) (inside : Inside storage kept) (psw : Psw) (l
       -- what is left, and in the named frames
       abbrev Leaves : Type 0
       Leaves =
-          Left h g c (instruction (started g clock (view g h) c 1)) (done_as (psw_in r psw) r.timer (record { words = control' })) storage' keys × Alike guard storage storage'
+          Left h g c (instruction (started g clock (view g h) c 1)) (done_as (psw_in d psw) d.timer (record { words = control' })) storage' keys × Alike guard storage storage'
 
       keeps : Keeps g h c kept
       keeps =
@@ -124,9 +125,9 @@ module _ (storage kept : List ℕ) (inside : Inside storage kept) (psw : Psw) (l
       uncut : wrap c (block.first + (at - block.place)) ≡ block.first + (at - block.place)
       uncut = wraps _ ∙ subst (λ n. wrap (state psw) n ≡ n) place wrapped
 
-      operated : length_of first ≡ 2 → second < 65536 → (kind : ℕ) → number_of first ≡ kind → (a : ℕ) → a ≡ wrap (state psw) (sum_of words second)
-          → Operates g clock psw timer control kept kind registers a storage r control' storage' → Leaves
-      operated two half kind number a cuts operates =
+      operated : length_of first ≡ 2 → second < 65536 → (operation : Operation) → number_of first ≡ number operation → (a : ℕ) → a ≡ wrap (state psw) (sum_of words second)
+          → Operates g clock psw timer control kept operation registers a storage d control' storage' → Leaves
+      operated two half operation named a cuts operates =
           let fetched =
           reads_two h g clock c block at (keeps.fetch lands.entry lands.few) stands holding from (omega (arith, fits)) even here uncut first second read refl two fits in
           let cut-here : wrap c (sum_of words second) ≡ a = wraps (sum_of words second) ∙ sym cuts in
@@ -146,10 +147,10 @@ module _ (storage kept : List ℕ) (inside : Inside storage kept) (psw : Psw) (l
             address = operand_here half c contents fetched.0 fetched.1.of_cpu fetched.1.of_text ∙ cut-here;
             wrapped = ap (wrap c) (sym cut-here) ∙ wrap-wrap c (sum_of words second) ∙ cut-here;
           })
-          timed controls number (omega (arith, byte)) in
-          (subst (λ o. Left h g c o (done_as (psw_in r psw) r.timer (record { words = control' })) storage' keys) (sym fetched.2) left, alike)
+          timed controls named (omega (arith, byte)) in
+          (subst (λ o. Left h g c o (done_as (psw_in d psw) d.timer (record { words = control' })) storage' keys) (sym fetched.2) left, alike)
 
-      called : length_of first ≡ 1 → op ≡ 0x0a → r.timer ≡ timer → control' ≡ control → Calls g area psw timer registers storage r storage' → Leaves
+      called : length_of first ≡ 1 → op ≡ 0x0a → d.timer ≡ timer → control' ≡ control → Calls g area psw timer registers storage d storage' → Leaves
       called one is time stays calls =
           let fetched = reads_one h g clock c block at (keeps.fetch lands.entry lands.few) stands holding from (omega (arith, fits)) even here uncut first read one in
           let (left, alike) =
@@ -164,33 +165,33 @@ module _ (storage kept : List ℕ) (inside : Inside storage kept) (psw : Psw) (l
             placed = placed;
           })
           timed (omega (arith, byte, is)) (omega (arith, byte)) in (
-            subst (λ o. Left h g c o (done_as (psw_in r psw) r.timer (record { words = control' })) storage' keys) (sym fetched.2)
+            subst (λ o. Left h g c o (done_as (psw_in d psw) d.timer (record { words = control' })) storage' keys) (sym fetched.2)
                 (subst (λ d. Left h g c (decoded fetched.0 (opcode_of c.psw.system370 first)) d storage' keys)
-                (λ i. done_as (psw_in r psw) (sym time i) (record { words = (controls ∙ sym stays) i })) left),
+                (λ i. done_as (psw_in d psw) (sym time i) (record { words = (controls ∙ sym stays) i })) left),
             alike,
           )
 
     abbrev Outcome : Type 0
-    Outcome = Singles g clock (start psw timer words control) kept area storage r control' storage'
+    Outcome = Singles g clock (start psw timer words control) kept area storage d control' storage'
 
     -- some state that begins so
     abbrev some : Cpu
     some = record { psw = psw; timer = timer; control = record { words = control }; general = record { words = words } }
 
     -- an instruction of two halfwords, with an operand
-    pub operates_singles : 64 ≤ op → op < 192 → second < 65536 → (kind : ℕ) → number_of first ≡ kind → (long : Bool) → long ≡ mode31 (state psw) → (a : ℕ) → a ≡ cut long (sum_of words second)
-        → Operates g clock psw timer control kept kind registers a storage r control' storage' → Outcome
-    operates_singles low high half kind number long mode a cuts operates designation keys guard wrapped marks free holds kept-area =
+    pub operates_singles : 64 ≤ op → op < 192 → second < 65536 → (operation : Operation) → number_of first ≡ number operation → (long : Bool) → long ≡ mode31 (state psw) → (a : ℕ) → a ≡ cut long (sum_of words second)
+        → Operates g clock psw timer control kept operation registers a storage d control' storage' → Outcome
+    operates_singles low high half operation named long mode a cuts operates designation keys guard wrapped marks free holds kept-area =
         ((λ c same timed controls contents. (leaves c same timed controls contents).0), (leaves some refl refl refl refl).1)
       where
         leaves : (c : Cpu) (same : c.psw ≡ psw) (timed : c.timer ≡ timer) (controls : c.control.words ≡ control) (contents : c.general.words ≡ words)
             → Leaves designation keys guard wrapped marks free holds kept-area c same timed controls contents
         leaves c same timed controls contents =
-            operated designation keys guard wrapped marks free holds kept-area c same timed controls contents (length_two first (omega (arith, byte, low)) (omega (arith, byte, high))) half kind number a
+            operated designation keys guard wrapped marks free holds kept-area c same timed controls contents (length_two first (omega (arith, byte, low)) (omega (arith, byte, high))) half operation named a
             (cuts ∙ cut_is_wrap psw long mode (sum_of words second)) operates
 
     -- SUPERVISOR CALL
-    pub calls_singles : op ≡ 0x0a → r.timer ≡ timer → control' ≡ control → Calls g area psw timer registers storage r storage' → Outcome
+    pub calls_singles : op ≡ 0x0a → d.timer ≡ timer → control' ≡ control → Calls g area psw timer registers storage d storage' → Outcome
     calls_singles is time stays calls designation keys guard wrapped marks free holds kept-area =
         ((λ c same timed controls contents. (leaves c same timed controls contents).0), (leaves some refl refl refl refl).1)
       where

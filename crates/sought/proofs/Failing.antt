@@ -1,5 +1,6 @@
 -- Where the guest's walk ends, by the code of the exception that it makes.
 -- Assumes nothing.
+use Rattle.std.specs.Prelude.{Err, Ok}
 use Prim.Native.Nat.{ℕ, ◌+◌, ◌*◌, ◌/◌, ◌%◌, ◌^◌, ◌≤◌, ◌<◌}
 use native.Mathlib.Omega.{arith}
 use mathlib.Core.Path.{◌≡◌, refl, sym, ap, subst, ◌∙◌}
@@ -12,15 +13,11 @@ use Rattle.machine.specs.declared.Cpu.{Cpu}
 use Rattle.machine.specs.declared.Failure.{Failure}
 use Rattle.machine.specs.declared.Guest.{Guest}
 use Rattle.machine.specs.declared.Stage.TheVariants.{GuestSegment, GuestPage}
-use Rattle.machine.specs.declared.TableEntry.{TableEntry}
-use Rattle.machine.specs.declared.TableEntry.TheVariants.{Word, Unread}
-use Rattle.machine.specs.declared.Walk.{Walk}
-use Rattle.machine.specs.declared.Walk.TheVariants.{Page, Failed}
 use Rattle.machine.specs.Words.{bit}
 use Rattle.machine.specs.Entry.{extent_bytes}
 use Rattle.machine.specs.Psw.{dat_on, control}
 use Rattle.machine.specs.Failures.{addressing, protection, segment_translation, page_translation, translation_specification, host_fault, exception_of, walk_exception}
-use Rattle.machine.specs.Walk.{frame_of, page_protected, segment_index, page_index, segment_entry_at, past_segment_table, segment_invalid, segment_malformed, page_entry_at, past_page_table, page_invalid, page_malformed}
+use Rattle.machine.specs.Walk.{frame_of, page_protected, segment_index, page_index, segment_entry_at, past_segment_table, segment_invalid, segment_malformed, page_entry_at, past_page_table, page_invalid, page_malformed, TableEntry, Walk}
 use Rattle.machine.specs.Host.{Host, Cell, host, host_virtual, in_frame, host_page, backing, cell_of, view}
 use Rattle.machine.specs.Addresses.{prefixed, entry_of, guest_entry, format_good, low_protected, real_page}
 use Rattle.machine.specs.Sought.{Way, leads, stops, unread, segment_table, page_table, nowhere, way_of_page, way_of_segment, way, found_by, guest_sought_by, guest_sought, host_sought, fault_sought, exception_sought, sought}
@@ -28,10 +25,9 @@ use Rattle.machine.specs.WhichTable.{Went, past_segments, lacks_segment, bad_seg
 use Rattle.machine.proofs.Ways.{walk_by_way, went}
 use Rattle.storage.proofs.Faults.{OwnWalk, own_host-page}
 use Rattle.machine.specs.Sizes.{page_bytes}
-use Rattle.address.specs.Touching.{guest_protects, settled, touched, touch_of}
+use Rattle.address.specs.Touching.{guest_protects, settled, touched, touch_of, Place}
 use Rattle.sought.specs.Failing.{ReadAs, ExceptsBy, Excepts}
 use Rattle.address.specs.Locating.{failure_in, place_in}
-use Rattle.address.specs.declared.Place.TheVariants.{At, Denied}
 use Rattle.address.proofs.Located.{failed_place}
 use Rattle.address.proofs.Touches.{touched_is}
 
@@ -43,8 +39,8 @@ module _ (at e : ℕ) where
 -- a page entry makes no segment translation exception
 never_segment : (at : ℕ) (x : TableEntry) → ExceptsBy (way_of_page at x) segment_translation → ⊥
 unfolding way_of_page
-never_segment at (Unread f) by = omega (arith, by.1)
-never_segment at (Word e) by = by_tests (page_invalid e) (page_malformed e) by
+never_segment at (Err f) by = omega (arith, by.1)
+never_segment at (Ok e) by = by_tests (page_invalid e) (page_malformed e) by
   where
     by_tests : (p q : Bool) → ExceptsBy (page_way at e p q) segment_translation → ⊥
     by_tests true q by = omega arith
@@ -55,8 +51,8 @@ never_segment at (Word e) by = by_tests (page_invalid e) (page_malformed e) by
 pub page_by_code : (at code : ℕ) (x : TableEntry) → ExceptsBy (way_of_page at x) code → (code ≡ addressing → ⊥)
     → guest_sought_by (way_of_page at x) ≡ record { stage = GuestPage; entry = at }
 unfolding way_of_page guest_sought_by
-page_by_code at code (Unread f) by other = absurd (other by.1)
-page_by_code at code (Word e) by other = by_tests (page_invalid e) (page_malformed e) by
+page_by_code at code (Err f) by other = absurd (other by.1)
+page_by_code at code (Ok e) by other = by_tests (page_invalid e) (page_malformed e) by
   where
     by_tests : (p q : Bool) → ExceptsBy (page_way at e p q) code → guest_sought_by (page_way at e p q) ≡ record { stage = GuestPage; entry = at }
     by_tests true q by = refl
@@ -64,11 +60,11 @@ page_by_code at code (Word e) by other = by_tests (page_invalid e) (page_malform
     by_tests false false by = absurd (other by)
 
 -- addressing, where the page entry lies below the extent, is by no table
-pub page_clear : (at : ℕ) (x : TableEntry) → ExceptsBy (way_of_page at x) addressing → ((f : Failure) → x ≡ Unread f → f.host ≡ false → ⊥)
+pub page_clear : (at : ℕ) (x : TableEntry) → ExceptsBy (way_of_page at x) addressing → ((f : Failure) → x ≡ Err f → f.host ≡ false → ⊥)
     → guest_sought_by (way_of_page at x) ≡ nowhere
 unfolding way_of_page guest_sought_by
-page_clear at (Unread f) by below = absurd (below f refl by.0)
-page_clear at (Word e) by below = by_tests (page_invalid e) (page_malformed e) by
+page_clear at (Err f) by below = absurd (below f refl by.0)
+page_clear at (Ok e) by below = by_tests (page_invalid e) (page_malformed e) by
   where
     by_tests : (p q : Bool) → ExceptsBy (page_way at e p q) addressing → guest_sought_by (page_way at e p q) ≡ nowhere
     by_tests true q by = absurd (omega arith)
@@ -81,8 +77,8 @@ page_clear at (Word e) by below = by_tests (page_invalid e) (page_malformed e) b
 pub segment_by_code : (read : ℕ → TableEntry) (at index : ℕ) (x : TableEntry) → ExceptsBy (way_of_segment read at index x) segment_translation
     → guest_sought_by (way_of_segment read at index x) ≡ record { stage = GuestSegment; entry = at }
 unfolding way_of_segment guest_sought_by
-segment_by_code read at index (Unread f) by = absurd (omega (arith, by.1))
-segment_by_code read at index (Word e) by = by_tests (segment_invalid e) (segment_malformed e) (past_page_table e index) by
+segment_by_code read at index (Err f) by = absurd (omega (arith, by.1))
+segment_by_code read at index (Ok e) by = by_tests (segment_invalid e) (segment_malformed e) (past_page_table e index) by
   where
     found : Way
     found = way_of_page (page_entry_at e index) (read (page_entry_at e index))
@@ -99,7 +95,7 @@ segment_by_code read at index (Word e) by = by_tests (segment_invalid e) (segmen
     by_tests false false false by = absurd (never_segment (page_entry_at e index) (read (page_entry_at e index)) by)
 
 -- any other exception shows that the entry is not invalid
-pub valid_by_code : (read : ℕ → TableEntry) (at index e code : ℕ) → ExceptsBy (way_of_segment read at index (Word e)) code → (code ≡ segment_translation → ⊥)
+pub valid_by_code : (read : ℕ → TableEntry) (at index e code : ℕ) → ExceptsBy (way_of_segment read at index (Ok e)) code → (code ≡ segment_translation → ⊥)
     → segment_invalid e ≡ false
 unfolding way_of_segment
 valid_by_code read at index e code by other = by_test (segment_invalid e) _ by
@@ -109,12 +105,12 @@ valid_by_code read at index e code by other = by_test (segment_invalid e) _ by
     by_test false w by = refl
 
 -- the host page behind a guest absolute address: what is not the host's fault is addressing, past the extent
-backing_excepts : (g : Guest) (d : ℕ) (s k : List ℕ) (at : ℕ) (f : Failure) → backing g (host d s k) at ≡ Failed f → f.host ≡ false
+backing_excepts : (g : Guest) (d : ℕ) (s k : List ℕ) (at : ℕ) (f : Failure) → backing g (host d s k) at ≡ Err f → f.host ≡ false
     → (extent_bytes g ≤ at) × (f.code ≡ addressing)
 unfolding backing host_page
 backing_excepts g d s k at f failed guest = by_extent (ltb at (extent_bytes g)) refl failed
   where
-    by_extent : (b : Bool) → ltb at (extent_bytes g) ≡ b → cond b (host_page (host d s k) (host_virtual g at)) (Failed (exception_of addressing)) ≡ Failed f
+    by_extent : (b : Bool) → ltb at (extent_bytes g) ≡ b → cond b (host_page (host d s k) (host_virtual g at)) (Err (exception_of addressing)) ≡ Err f
         → (extent_bytes g ≤ at) × (f.code ≡ addressing)
     by_extent true e found =
         let own = subst (OwnWalk (host_virtual g at)) found (own_host-page s d (host_virtual g at)) in
@@ -125,23 +121,23 @@ backing_excepts g d s k at f failed guest = by_extent (ltb at (extent_bytes g)) 
 
 -- the guest table entry at a guest real address
 module _ (g : Guest) (d : ℕ) (s k : List ℕ) (real : ℕ) where
-  pub entry_past : extent_bytes g ≤ prefixed g real → guest_entry g (view g (host d s k)) real ≡ Unread (exception_of addressing)
+  pub entry_past : extent_bytes g ≤ prefixed g real → guest_entry g (view g (host d s k)) real ≡ Err (exception_of addressing)
   unfolding guest_entry entry_of view cell_of backing
   entry_past past = rw (le-ltb _ _ past)
 
   -- where it cannot be read and the host has no part in it, it lies past the extent
-  pub entry_excepts : (f : Failure) → guest_entry g (view g (host d s k)) real ≡ Unread f → f.host ≡ false
+  pub entry_excepts : (f : Failure) → guest_entry g (view g (host d s k)) real ≡ Err f → f.host ≡ false
       → (extent_bytes g ≤ prefixed g real) × (f.code ≡ addressing)
   unfolding guest_entry entry_of view cell_of
   entry_excepts f missing guest = by_walk (backing g (host d s k) (prefixed g real)) refl missing
     where
       by_walk : (w : Walk) → backing g (host d s k) (prefixed g real) ≡ w
-          → entry_of (view g (host d s k)) (prefixed g real) (cell_of (host d s k) (prefixed g real) w) ≡ Unread f
+          → entry_of (view g (host d s k)) (prefixed g real) (cell_of (host d s k) (prefixed g real) w) ≡ Err f
           → (extent_bytes g ≤ prefixed g real) × (f.code ≡ addressing)
-      by_walk (Page frame protected) backed e = let z : ◌≡◌ {A = ℕ} 0 1 = cc in absurd (omega arith)
-      by_walk (Failed x) backed e =
+      by_walk (Ok page) backed e = let z : ◌≡◌ {A = ℕ} 0 1 = cc in absurd (omega arith)
+      by_walk (Err x) backed e =
           let same : x ≡ f = cc in
-          backing_excepts g d s k (prefixed g real) f (backed ∙ ap Failed same) guest
+          backing_excepts g d s k (prefixed g real) f (backed ∙ ap Err same) guest
 
 -- the ways of a walk that end at an entry which cannot be read end there for that entry's reason
 abbrev OnUnread : (Failure → Type 0) → Way → Type 0
@@ -149,7 +145,7 @@ OnUnread Q (leads at e) = Unit {0}
 OnUnread Q (stops table at code) = Unit {0}
 OnUnread Q (unread table f) = Q f
 
-on_way : (Q : Failure → Type 0) (read : ℕ → TableEntry) → ((at : ℕ) (f : Failure) → read at ≡ Unread f → Q f) → (designation a : ℕ)
+on_way : (Q : Failure → Type 0) (read : ℕ → TableEntry) → ((at : ℕ) (f : Failure) → read at ≡ Err f → Q f) → (designation a : ℕ)
     → OnUnread Q (way read designation a)
 on_way Q read own designation a = by_way (went read designation a)
   where
@@ -163,7 +159,7 @@ on_way Q read own designation a = by_way (went read designation a)
     by_way (good_page to is) = tt
 
 -- an access that is an exception of the guest, and no protection, is one of the guest's walk, or lies past the extent
-pub access_excepts : (g : Guest) (d : ℕ) (s k : List ℕ) (c : Cpu) (store : Bool) (a : ℕ) (f : Failure) → touch_of g (host d s k) c store a ≡ Denied f
+pub access_excepts : (g : Guest) (d : ℕ) (s k : List ℕ) (c : Cpu) (store : Bool) (a : ℕ) (f : Failure) → touch_of g (host d s k) c store a ≡ Err f
     → f.host ≡ false → (f.code ≡ protection → ⊥) → Excepts g (view g (host d s k)) c a f.code
 unfolding touched settled found_by real_page walk_exception
 access_excepts g d s k c store a f denied guest apart on good = by_low (store && low_protected c a) (sym (touched_is g h c store a) ∙ denied)
@@ -174,20 +170,20 @@ access_excepts g d s k c store a f denied guest apart on good = by_low (store &&
     read : ℕ → TableEntry
     read = guest_entry g (view g h)
 
-    protects_not : {x : Failure} → x.code ≡ protection → Denied x ≡ Denied f → ⊥
+    protects_not : {x : Failure} → x.code ≡ protection → ◌≡◌ {A = Place} (Err x) (Err f) → ⊥
     protects_not {x} is e = let same : x ≡ f = cc in apart (ap (λ (y : Failure). y.code) (sym same) ∙ is)
 
     by_tests : (p q : Bool) (at frame : ℕ)
-        → cond p (Denied (exception_of protection)) (cond q (Denied (host_fault (host_virtual g at) protection)) (At (in_frame frame at))) ≡ Denied f → ⊥
+        → cond p (Err (exception_of protection)) (cond q (Err (host_fault (host_virtual g at) protection)) (Ok (in_frame frame at))) ≡ Err f → ⊥
     by_tests true q at frame e = protects_not refl e
     by_tests false true at frame e = protects_not refl e
     by_tests false false at frame e = let z : ◌≡◌ {A = ℕ} 0 1 = cc in omega arith
 
-    by_host_lem : (protects : ℕ → Bool) (at : ℕ) (w : Walk) → backing g h at ≡ w → settled g k store protects at w ≡ Denied f → f.code ≡ addressing
-    by_host_lem protects at (Failed x) backed e = let same : x ≡ f = cc in (backing_excepts g d s k at f (backed ∙ ap Failed same) guest).1
-    by_host_lem protects at (Page frame protected) backed e = absurd (by_tests (protects (get_or k frame 0)) (store && protected) at frame e)
+    by_host_lem : (protects : ℕ → Bool) (at : ℕ) (w : Walk) → backing g h at ≡ w → settled g k store protects at w ≡ Err f → f.code ≡ addressing
+    by_host_lem protects at (Err x) backed e = let same : x ≡ f = cc in (backing_excepts g d s k at f (backed ∙ ap Err same) guest).1
+    by_host_lem protects at (Ok page) backed e = absurd (by_tests (protects (get_or k page.frame 0)) (store && page.protected) at page.frame e)
 
-    by_way : (w : Way) → OnUnread (λ x. x.host ≡ false → x.code ≡ addressing) w → touched g h c store a (found_by (walk_exception a) w) ≡ Denied f
+    by_way : (w : Way) → OnUnread (λ x. x.host ≡ false → x.code ≡ addressing) w → touched g h c store a (found_by (walk_exception a) w) ≡ Err f
         → ExceptsBy w f.code
     by_way (stops table at code) own e = let same : walk_exception a code ≡ f = cc in sym (ap (λ (y : Failure). y.code) same)
     by_way (unread table x) own e =
@@ -197,7 +193,7 @@ access_excepts g d s k c store a f denied guest apart on good = by_low (store &&
         let absolute = prefixed g (frame_of word * page_bytes + a % page_bytes) in
         by_host_lem (guest_protects c store (page_protected word)) absolute (backing g h absolute) refl e
 
-    by_low : (b : Bool) → cond b (Denied (exception_of protection)) (touched g h c store a (real_page g (view g h) c a)) ≡ Denied f
+    by_low : (b : Bool) → cond b (Err (exception_of protection)) (touched g h c store a (real_page g (view g h) c a)) ≡ Err f
         → ExceptsBy (way read (control c 1) a) f.code
     by_low true e = absurd (protects_not refl e)
     by_low false e =
@@ -236,13 +232,13 @@ module _ (g : Guest) (v : ℕ → Cell) (c : Cpu) (a cr1 code : ℕ) (on : dat_o
 
 -- an entry as a number says it
 
-pub read_word : (x : TableEntry) (r : ℕ) → ReadAs x r → r < 2 ^ 32 → x ≡ Word r
-read_word (Word e) r is low = ap Word (sym is.0)
-read_word (Unread f) r high low = absurd (omega arith)
+pub read_word : (x : TableEntry) (r : ℕ) → ReadAs x r → r < 2 ^ 32 → x ≡ Ok r
+read_word (Ok e) r is low = ap Ok (sym is.0)
+read_word (Err f) r high low = absurd (omega arith)
 
-pub read_none : (x : TableEntry) (r : ℕ) → ReadAs x r → 2 ^ 32 ≤ r → (f : Failure) × (x ≡ Unread f)
-read_none (Word e) r is high = absurd (omega (arith, is.0, is.1))
-read_none (Unread f) r is high = (f, refl)
+pub read_none : (x : TableEntry) (r : ℕ) → ReadAs x r → 2 ^ 32 ≤ r → (f : Failure) × (x ≡ Err f)
+read_none (Ok e) r is high = absurd (omega (arith, is.0, is.1))
+read_none (Err f) r is high = (f, refl)
 
 -- by which table an access fails that a number says: the failure of the number, by its parts
 module _ (g : Guest) (h : Host) (c : Cpu) (a w : ℕ) where
@@ -269,4 +265,4 @@ pub number_excepts : (g : Guest) (d : ℕ) (s k : List ℕ) (c : Cpu) (store : B
     → touch_of g (host d s k) c store a ≡ place_in a w → Excepts g (view g (host d s k)) c a (w / 2 ^ 33)
 unfolding failure_in walk_exception
 number_excepts g d s k c store a w high other even found =
-    access_excepts g d s k c store a (walk_exception a (w / 2 ^ 33)) (found ∙ failed_place a w high ∙ ap Denied (rw (ne_eqb _ _ even))) refl other
+    access_excepts g d s k c store a (walk_exception a (w / 2 ^ 33)) (found ∙ failed_place a w high ∙ ap Err (rw (ne_eqb _ _ even))) refl other

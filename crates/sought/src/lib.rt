@@ -9,12 +9,12 @@ ghost use Rattle.machine.specs.Walk.{page_index};
 ghost use Rattle.machine.specs.Host.{host, view};
 ghost use Rattle.machine.specs.Addresses.{guest_entry};
 ghost use Rattle.machine.specs.Sought.{way_of_segment, guest_sought_by, guest_sought, sought};
-ghost use Rattle.prefixing.specs.Prefixing.{Sees, Fits};
+ghost use Rattle.prefixing.specs.Prefixing.{Sees};
 ghost use Rattle.address.specs.Touching.{touch_of};
 ghost use Rattle.address.specs.Locating.{failure_in, place_in};
 ghost use Rattle.sought.specs.Failing.{ReadAs, ExceptsBy, Excepts};
 
-use machine::{Sought, Stage, TableEntry};
+use machine::{Sought, Stage};
 use prefixing::Space;
 
 const PROTECTION: u64 = 4;
@@ -26,29 +26,9 @@ const SEGMENT: u64 = 0x10;
 // Numbers from here on say a failure.
 const STOPPED: u64 = 4294967296;
 
-// An entry of the guest's segment table, by its address, or zero where it is not read.
-fn guest_segment(entry: u32) -> Sought
-    ensures { result ≡ record { stage = Stage.GuestSegment; entry = entry } }
-{
-    Sought {
-        stage: Stage::GuestSegment,
-        entry,
-    }
-}
-
-// An entry of a page table of the guest.
-fn guest_page(entry: u32) -> Sought
-    ensures { result ≡ record { stage = Stage.GuestPage; entry = entry } }
-{
-    Sought {
-        stage: Stage::GuestPage,
-        entry,
-    }
-}
-
 // The guest table entry at a guest real address; 2^32 where it cannot be read.
 fn guest_word(storage: &[u8], space: Space, real: u32) -> u64
-    requires { Fits space × (real % 4 ≡ 0) }
+    requires { real % 4 ≡ 0 }
     ensures { (g : Guest) (c : Cpu) → Sees space g c → (k : List ℕ) → ReadAs (guest_entry g (view g (host space.designation storage.now k)) real) result }
 {
     let at = prefixing::virtual_of(space, real);
@@ -66,68 +46,64 @@ fn guest_word(storage: &[u8], space: Space, real: u32) -> u64
 
 // Where the guest's walk for a logical address ends, by its segment entry, which is read and, by the exception's code, not invalid.
 fn guest_by_segment(space: Space, a: u32, code: u64, at: u32, word: u32) -> Sought
-    requires { Fits space × (code ≡ segment_translation → ⊥) }
+    requires { code ≡ segment_translation → ⊥ }
     ensures { (g : Guest) (c : Cpu) → Sees space g c → (d : ℕ) (s k : List ℕ)
-        → ExceptsBy (way_of_segment (guest_entry g (view g (host d s k))) at (page_index a) (TableEntry.Word word)) code
-        → result ≡ guest_sought_by (way_of_segment (guest_entry g (view g (host d s k))) at (page_index a) (TableEntry.Word word)) }
+        → ExceptsBy (way_of_segment (guest_entry g (view g (host d s k))) at (page_index a) (Ok word)) code
+        → result ≡ guest_sought_by (way_of_segment (guest_entry g (view g (host d s k))) at (page_index a) (Ok word)) }
 {
     if word / 2147483648 % 2 == 1 {
-        return guest_segment(at);
+        return faults::sought_at(Stage::GuestSegment, at);
     }
     let page = a / 4096 % 256;
     if word % 16 < page / 16 {
-        return guest_page(0);
+        return faults::sought_at(Stage::GuestPage, 0);
     }
     let next = word / 64 % 33554432 * 64 + page * 4;
     if code != ADDRESSING {
-        return guest_page(next);
+        return faults::sought_at(Stage::GuestPage, next);
     }
     if prefixing::virtual_of(space, next) >= STOPPED {
-        return guest_page(0);
+        return faults::sought_at(Stage::GuestPage, 0);
     }
     faults::nowhere()
 }
 
 // Where the guest's walk for a logical address ends, where that is in an exception with this code, by which less need be read.
 fn guest_sought(storage: &[u8], space: Space, a: u32, code: u64) -> Sought
-    requires { Fits space }
     ensures { (g : Guest) (c : Cpu) → Sees space g c → (k : List ℕ) → Excepts g (view g (host space.designation storage.now k)) c a code
         → result ≡ guest_sought g (view g (host space.designation storage.now k)) c a }
 {
-    if !address::dat_on(space.left) {
-        return faults::nowhere();
-    }
-    if space.cr0 / 524288 % 32 != 22 {
+    if !address::dat_on(space.left) || space.cr0 / 524288 % 32 != 22 {
         return faults::nowhere();
     }
     let index = a / 1048576;
     if space.cr1 % 128 < index / 16 {
-        return guest_segment(0);
+        return faults::sought_at(Stage::GuestSegment, 0);
     }
     let at = space.cr1 / 4096 % 524288 * 4096 + index * 4;
     if code == SEGMENT {
-        return guest_segment(at);
+        return faults::sought_at(Stage::GuestSegment, at);
     }
     let word = guest_word(storage, space, at);
     if word >= STOPPED {
-        return guest_segment(0);
+        return faults::sought_at(Stage::GuestSegment, 0);
     }
     guest_by_segment(space, a, code, at, word as u32)
 }
 
 // By which table an access to a logical address fails, which a number says.
 pub fn sought(storage: &[u8], space: Space, a: u32, w: u64) -> Sought
-    requires { Fits space × (4294967296 ≤ w) }
+    requires { 4294967296 ≤ w }
     ensures { (g : Guest) (c : Cpu) → Sees space g c → (k : List ℕ) (store : Bool)
         → touch_of g (host space.designation storage.now k) c store a ≡ place_in a w
         → result ≡ sought g (host space.designation storage.now k) c a (failure_in a w) }
 {
     let code = w / 8589934592;
     if code == PROTECTION {
-        return faults::nowhere();
+        faults::nowhere()
+    } else if w / STOPPED % 2 == 1 {
+        faults::host_sought(storage, space.designation, (w % STOPPED) as u32)
+    } else {
+        guest_sought(storage, space, a, code)
     }
-    if w / STOPPED % 2 == 1 {
-        return faults::host_sought(storage, space.designation, (w % STOPPED) as u32);
-    }
-    guest_sought(storage, space, a, code)
 }

@@ -22,8 +22,8 @@ use Rattle.stores.proofs.Storing.{over_code}
 use Rattle.blocks.specs.Keeping.{fetch_block}
 use Rattle.places.specs.Placing.{Spot}
 use Rattle.steps.specs.Texting.{done_as}
-use Rattle.steps.proofs.Completing.{set_none}
-use Rattle.special.specs.declared.Single.{Single}
+use Rattle.steps.proofs.Completing.{set_unset}
+use Rattle.special.specs.declared.Done.{Done}
 use Rattle.special.specs.Performing.{psw_in, Performs, Always, AtClock, AtTimer}
 use Rattle.special.specs.Storing.{Stored}
 use Rattle.special.proofs.Performing.{performs_fetched, performs-stored}
@@ -46,7 +46,7 @@ module _ (kept storage : List ℕ) (psw : Psw) (a : ℕ) (small : a < 2147483648
         let done = done_as new c.timer c.control in
         performs_fetched kept storage guard psw a h g x clock c text first second begun small 8 p (omega arith) spot refl
         (λ bytes. with_psw x.cpu (psw_of x.cpu.psw.system370 bytes 0)) done refl
-        (psw_loaded h x begun.standing done new operand (set_none c new begun.sixteen)
+        (psw_loaded h x begun.standing done new operand (set_unset c new)
         (loads ∙ ap (λ q. psw_of q.system370 storage p) (sym begun.of_psw)
         ∙ sym (part_psw storage (take (8 - 8) (drop 0 storage)) p 8 fits c.psw.system370 (omega arith))))
 
@@ -58,34 +58,34 @@ module _ (kept storage : List ℕ) (psw : Psw) (a : ℕ) (small : a < 2147483648
         let done = done_as past timer c.control in
         performs_fetched kept storage guard psw a h g x clock c text first second begun small 8 p (omega arith) spot refl
         (λ bytes. next x (with_timer x.cpu (double_at bytes 0))) done refl
-        (timer_loaded h x begun.standing done past operand timer (none_set c event.Completed past timer c.control begun.sixteen)
+        (timer_loaded h x begun.standing done past operand timer (none_set c event.Completed past timer c.control)
         (λ k same. two_past first begun.two past k (moves k (same ∙ begun.of_psw)))
         (loads ∙ sym (part_double storage (take (8 - 8) (drop 0 storage)) p 8 fits (omega arith))))
 
-  module _ (past : Psw) (value : ℕ) (r : Single) (storage' : List ℕ) (stored : Stored kept past a (double_bytes value) r storage storage') where
+  module _ (past : Psw) (value : ℕ) (d : Done) (storage' : List ℕ) (stored : Stored kept past a (double_bytes value) d storage storage') where
     -- STORE CLOCK (STCK)
     pub clock_performed : (epoch now : ℕ) → ((g : Guest) → g.epoch ≡ epoch → value ≡ guest_clock g now)
         → ((c : Cpu) → c.psw ≡ psw → past ≡ (advanced (with_condition_code c 0) 2).psw)
-        → Performs kept psw a storage (AtClock epoch now) store_clock (λ c. done_as (psw_in r psw) c.timer c.control) storage'
+        → Performs kept psw a storage (AtClock epoch now) store_clock (λ c. done_as (psw_in d psw) c.timer c.control) storage'
     unfolding store_clock
     clock_performed epoch now reads moves =
-        rw (stored.put, coded_psw psw past 2 0 moves r stored.left stored.right) λ guard h g x clock c text first second begun (of-epoch, of-clock).
+        rw (stored.put, coded_psw psw past 2 0 moves d stored.left stored.right) λ guard h g x clock c text first second begun (of-epoch, of-clock).
         let standing = begun.standing in
         performs-stored kept storage guard psw a h g x clock c text first second begun small 8 stored.place (omega arith) stored.spot stored.high (double_bytes value) refl
         (ap double_bytes (reads g of-epoch ∙ (λ i. guest_clock (sym standing.of_guest i) (sym (standing.of_clock ∙ of-clock) i))))
         (next x (with_condition_code x.cpu 0)) (done_as past c.timer c.control) refl
-        (set_none c past begun.sixteen ∙ over_code c 0 past
+        (set_unset c past ∙ over_code c 0 past
         ∙ past_it h x standing (with_condition_code c 0) past (two_past first begun.two past (with_condition_code c 0) (moves c begun.of_psw))
         ∙ ap (λ k. next x (with_condition_code k 0)) (sym standing.of_cpu))
 
     -- STORE CPU TIMER (STPT)
     pub timer_stored : ((c : Cpu) → c.psw ≡ psw → past ≡ (advanced c 2).psw)
-        → Performs kept psw a storage (AtTimer value) store_timer (λ c. done_as (psw_in r psw) c.timer c.control) storage'
+        → Performs kept psw a storage (AtTimer value) store_timer (λ c. done_as (psw_in d psw) c.timer c.control) storage'
     unfolding store_timer
     timer_stored moves =
-        rw (stored.put, past_psw psw past 2 moves r stored.left stored.right) λ guard h g x clock c text first second begun is.
+        rw (stored.put, past_psw psw past 2 moves d stored.left stored.right) λ guard h g x clock c text first second begun is.
         let standing = begun.standing in
         performs-stored kept storage guard psw a h g x clock c text first second begun small 8 stored.place (omega arith) stored.spot stored.high (double_bytes value) refl
         (ap double_bytes (sym (ap (λ k. k.timer) standing.of_cpu ∙ is)))
         (next x x.cpu) (done_as past c.timer c.control) refl
-        (set_none c past begun.sixteen ∙ past_it h x standing c past (two_past first begun.two past c (moves c begun.of_psw)) ∙ ap (next x) (sym standing.of_cpu))
+        (set_unset c past ∙ past_it h x standing c past (two_past first begun.two past c (moves c begun.of_psw)) ∙ ap (next x) (sym standing.of_cpu))

@@ -9,8 +9,16 @@ use Rattle.machine.proofs.Tests.{on_either_arm}
 use Rattle.execute.proofs.Ending.{small_code}
 use Rattle.psws.specs.Psws.{state, Wrapped}
 use Rattle.psws.proofs.Placed.{advanced_at, coded_at, at_start}
-use Rattle.special.specs.declared.Single.{Single}
-use Rattle.special.specs.Performing.{psw_in, Near}
+use Rattle.special.specs.declared.Done.{Done}
+use Rattle.special.specs.declared.Change.{Change}
+use Rattle.special.specs.declared.Change.TheVariants.{Calm, Called, Changed}
+use Rattle.special.specs.Performing.{IfCalm, psw_in, Near}
+
+-- what is so is so where address, condition code and storage alone changed
+pub in_calm : (change : Change) {P : Type 0} → P → IfCalm change P
+in_calm Calm p = p
+in_calm Called p = tt
+in_calm Changed p = tt
 
 -- the architecture stays
 
@@ -23,18 +31,18 @@ unfolding with_condition_code with_psw
 coded_kind c code =
     on_either_arm (λ p. p.system370 ≡ c.psw.system370) (basic_control c) {u = code_in_right c.psw code} {v = code_in_left c.psw code} refl refl
 
-of_words : (r : Single) (psw next : Psw) → r.left ≡ next.left → r.right ≡ next.right → next.system370 ≡ psw.system370 → psw_in r psw ≡ next
-of_words r psw next left right kind = λ i. record { left = left i; right = right i; system370 = sym kind i }
+of_words : (d : Done) (psw next : Psw) → d.left ≡ next.left → d.right ≡ next.right → next.system370 ≡ psw.system370 → psw_in d psw ≡ next
+of_words d psw next left right kind = λ i. record { left = left i; right = right i; system370 = sym kind i }
 
 -- the PSW past an instruction, and with another condition code
 module _ (psw next : Psw) (n : ℕ) where
-  pub past_psw : ((c : Cpu) → c.psw ≡ psw → next ≡ (advanced c n).psw) → (r : Single) → r.left ≡ next.left → r.right ≡ next.right → psw_in r psw ≡ next
-  past_psw moves r left right = of_words r psw next left right (ap (λ p. p.system370) (moves (state psw) refl) ∙ advanced_kind (state psw) n)
+  pub past_psw : ((c : Cpu) → c.psw ≡ psw → next ≡ (advanced c n).psw) → (d : Done) → d.left ≡ next.left → d.right ≡ next.right → psw_in d psw ≡ next
+  past_psw moves d left right = of_words d psw next left right (ap (λ p. p.system370) (moves (state psw) refl) ∙ advanced_kind (state psw) n)
 
-  pub coded_psw : (code : ℕ) → ((c : Cpu) → c.psw ≡ psw → next ≡ (advanced (with_condition_code c code) n).psw) → (r : Single) → r.left ≡ next.left → r.right ≡ next.right
-      → psw_in r psw ≡ next
-  coded_psw code moves r left right =
-      of_words r psw next left right
+  pub coded_psw : (code : ℕ) → ((c : Cpu) → c.psw ≡ psw → next ≡ (advanced (with_condition_code c code) n).psw) → (d : Done) → d.left ≡ next.left → d.right ≡ next.right
+      → psw_in d psw ≡ next
+  coded_psw code moves d left right =
+      of_words d psw next left right
       (ap (λ p. p.system370) (moves (state psw) refl) ∙ advanced_kind (with_condition_code (state psw) code) n ∙ coded_kind (state psw) code)
 
   -- they differ in address and condition code alone

@@ -1,6 +1,6 @@
 -- Instructions with an operand that change more than a lap does, or take clock or CPU timer: their operand stands on a kept block, and
 -- they are done by numbers.
-use Rattle.std.specs.Prelude.{ℕ, ◌/◌, ◌%◌, ◌≤◌, ◌<◌, ◌≡◌, false, List, length}
+use Rattle.std.specs.Prelude.{ℕ, ◌/◌, ◌%◌, ◌<◌, ◌≡◌, false, List, length}
 use Rattle.machine.specs.declared.Cpu.{Cpu}
 use Rattle.machine.specs.declared.Guest.{Guest}
 use Rattle.machine.specs.declared.Psw.{Psw}
@@ -9,32 +9,36 @@ use Rattle.machine.specs.Host.{Host}
 use Rattle.machine.specs.Opcodes.{length_of}
 use Rattle.machine.specs.Outcomes.{Outcome, Progress}
 use Rattle.machine.specs.Execute.{operand_address}
-use Rattle.interruptions.specs.declared.Done.{Done}
+use Rattle.interruptions.specs.declared.Done.{Done as Leaves}
 use Rattle.interruptions.specs.After.{Standing, Left}
 use Rattle.guard.specs.Guarding.{Alike}
 use Rattle.psws.specs.Psws.{psw_at}
 use Rattle.blocks.specs.Keeping.{Block, Keeps, Inside, HasMarks, Marks, Free}
 use Rattle.steps.specs.Texting.{short_text, text_frame}
-use Rattle.special.specs.declared.Single.{Single}
+use Rattle.special.specs.declared.Want.{Want}
+use Rattle.special.specs.declared.Want.TheVariants.{Lap, Tests, Other, Fetch, Store, Area}
+use Rattle.special.specs.declared.Change.{Change}
+use Rattle.special.specs.declared.Change.TheVariants.{Calm, Called, Changed}
+use Rattle.special.specs.declared.Done.{Done}
 
--- the answers from here on say that the unit is done: address, condition code and storage alone changed; by an interruption; otherwise
+-- an address that is wanted is one of 31 bits
+abbrev pub Below : Want → Type 0
+Below Lap = Unit {0}
+Below Tests = Unit {0}
+Below Other = Unit {0}
+Below (Fetch a) = a < 2147483648
+Below (Store a) = a < 2147483648
+Below Area = Unit {0}
 
-abbrev pub calm : ℕ
-calm = 32
+-- what is so where address, condition code and storage alone changed
+abbrev pub IfCalm : Change → Type 0 → Type 0
+IfCalm Calm P = P
+IfCalm Called P = Unit {0}
+IfCalm Changed P = Unit {0}
 
-abbrev pub called : ℕ
-called = 33
-
-abbrev pub changed : ℕ
-changed = 34
-
--- the unit is done
-abbrev pub IsDone : Single → Type 0
-IsDone r = calm ≤ r.want
-
--- the PSW that it leaves
-abbrev pub psw_in : Single → Psw → Psw
-psw_in r psw = record { left = r.left; right = r.right; system370 = psw.system370 }
+-- the PSW that a done unit leaves
+abbrev pub psw_in : Done → Psw → Psw
+psw_in d psw = record { left = d.left; right = d.right; system370 = psw.system370 }
 
 -- a PSW that differs from another in address and condition code alone
 pub record Near (psw later : Psw) : Type 0 where
@@ -59,7 +63,7 @@ pub record Begun (kept storage guard : List ℕ) (psw : Psw) (a : ℕ) (h : Host
   pub wrapped : wrap c a ≡ a
 
 -- the instruction leaves this state and this storage, whatever guest and host are
-abbrev pub Performs : List ℕ → Psw → ℕ → List ℕ → (Guest → ℕ → Cpu → ℕ → Type 0) → (Progress → Outcome) → (Cpu → Done) → List ℕ → Type 0
+abbrev pub Performs : List ℕ → Psw → ℕ → List ℕ → (Guest → ℕ → Cpu → ℕ → Type 0) → (Progress → Outcome) → (Cpu → Leaves) → List ℕ → Type 0
 Performs kept psw a storage when outcome done storage' =
     (guard : List ℕ) (h : Host) (g : Guest) (x : Progress) (clock : ℕ) (c : Cpu) (text : Block) (first second : ℕ)
     → Begun kept storage guard psw a h g x clock c text first second → when g clock c first

@@ -13,7 +13,7 @@ use Rattle.psws.specs.Psws.{state, Wrapped}
 use Rattle.blocks.specs.Keeping.{Holds, Marks, Free}
 use Rattle.steps.specs.Texting.{done_as}
 use Rattle.area.specs.Keeping.{Area}
-use Rattle.special.specs.declared.Single.{Single}
+use Rattle.special.specs.declared.Done.{Done}
 use Rattle.special.specs.Performing.{psw_in}
 
 -- what a unit begins with beside guest, clock and storage: PSW, CPU timer, general registers and control registers
@@ -27,16 +27,16 @@ abbrev pub start : Psw → ℕ → List ℕ → List ℕ → Start
 start psw timer words control = record { psw = psw; timer = timer; words = words; control = control }
 
 -- a unit that is done, of this guest at this clock in this host: it is the definition's, with general registers and keys as they are
-abbrev pub SinglesIn : ℕ → List ℕ → Guest → ℕ → Start → List ℕ → ℕ → List ℕ → Single → List ℕ → List ℕ → Type 0
-SinglesIn designation keys g clock s kept area storage r control' storage' =
+abbrev pub SinglesIn : ℕ → List ℕ → Guest → ℕ → Start → List ℕ → ℕ → List ℕ → Done → List ℕ → List ℕ → Type 0
+SinglesIn designation keys g clock s kept area storage d control' storage' =
     (guard : List ℕ) → Wrapped s.psw (instruction_address (state s.psw)) → Marks keys kept → Free guard kept
     → Holds guard g (host designation storage keys) (seen s.psw (record { words = s.control })) kept → Area guard g (host designation storage keys) area
     → ((c : Cpu) → c.psw ≡ s.psw → c.timer ≡ s.timer → c.control.words ≡ s.control → c.general.words ≡ s.words
     → Left (host designation storage keys) g c (instruction (started g clock (view g (host designation storage keys)) c 1))
-    (done_as (psw_in r s.psw) r.timer (record { words = control' })) storage' keys)
+    (done_as (psw_in d s.psw) d.timer (record { words = control' })) storage' keys)
     × Alike guard storage storage'
 
 -- whatever the host is
-abbrev pub Singles : Guest → ℕ → Start → List ℕ → ℕ → List ℕ → Single → List ℕ → List ℕ → Type 0
-Singles g clock s kept area storage r control' storage' =
-    (designation : ℕ) (keys : List ℕ) → SinglesIn designation keys g clock s kept area storage r control' storage'
+abbrev pub Singles : Guest → ℕ → Start → List ℕ → ℕ → List ℕ → Done → List ℕ → List ℕ → Type 0
+Singles g clock s kept area storage d control' storage' =
+    (designation : ℕ) (keys : List ℕ) → SinglesIn designation keys g clock s kept area storage d control' storage'

@@ -2,111 +2,99 @@
 // STORE CLOCK and STORE CPU TIMER, by numbers.
 #![tactic(auto)]
 
-ghost use Rattle.std.specs.Prelude.{◌≡◌, ◌<◌};
+ghost use Rattle.std.specs.Prelude.{◌≡◌, ◌<◌, IfOk, IfErr};
 ghost use Rattle.machine.specs.Words.{double_bytes};
 ghost use Rattle.machine.specs.Psw.{instruction_address};
 ghost use Rattle.machine.specs.Execute.{load_psw, store_clock, set_timer, store_timer};
 ghost use Rattle.psws.specs.Psws.{state, Wrapped};
 ghost use Rattle.blocks.specs.Keeping.{Inside};
 ghost use Rattle.steps.specs.Texting.{done_as};
-ghost use Rattle.special.specs.Performing.{calm, IsDone, psw_in, Near, Performs, Always, AtClock, AtTimer};
+ghost use Rattle.special.specs.Performing.{Below, IfCalm, psw_in, Near, Performs, Always, AtClock, AtTimer};
 ghost use Rattle.special.specs.Storing.{Stored};
 
 use machine::Psw;
 
-// What a unit comes to: what is wanted, with an address; or, done, the PSW's words and the CPU timer that it leaves.
+// What a unit that is not done wants: a lap, its tests, or unit, for the instruction; a block to fetch from, or to store into, at an
+// address; or the place of the prefix page.
+#[derive(Clone, Copy, PartialEq, Eq)]
+pub enum Want {
+    Lap,
+    Tests,
+    Other,
+    Fetch(u32),
+    Store(u32),
+    Area,
+}
+
+// What a done unit changed: address, condition code and storage alone; by an interruption; otherwise.
+#[derive(Clone, Copy, PartialEq, Eq)]
+pub enum Change {
+    Calm,
+    Called,
+    Changed,
+}
+
+// What a done unit leaves: the PSW's words and the CPU timer. The architecture is the one before.
 #[derive(Clone, Copy)]
-pub struct Single {
-    pub want: u32,
-    pub a: u32,
+pub struct Done {
+    pub change: Change,
     pub left: u32,
     pub right: u32,
     pub timer: u64,
 }
 
-// The instruction is a lap's.
-pub const LAP: u32 = 0;
-
-// The instruction is for unit to do.
-pub const OTHER: u32 = 4;
-
-// The instruction's tests come to something else than the instruction, or it has none.
-pub const TESTS: u32 = 16;
-
-// A block is wanted to fetch from, or to store into.
-pub const FETCH: u32 = 18;
-
-pub const STORE: u32 = 19;
-
-// The place of the prefix page is wanted.
-pub const AREA: u32 = 20;
-
-// Done: address, condition code and storage alone changed.
-pub const CALM: u32 = 32;
-
-// Done, by an interruption.
-pub const CALLED: u32 = 33;
-
-// Done otherwise.
-pub const CHANGED: u32 = 34;
-
-// Not done: something is wanted.
-pub fn wanting(want: u32, a: u32, timer: u64) -> Single
-    ensures { result ≡ record { want = want; a = a; left = 0; right = 0; timer = timer } }
-{
-    Single {
-        want,
-        a,
-        left: 0,
-        right: 0,
-        timer,
+impl Done {
+    // Done, with this PSW.
+    pub fn leaving(change: Change, psw: Psw, timer: u64) -> Done
+        ensures { result ≡ record { change = change; left = psw.left; right = psw.right; timer = timer } }
+    {
+        Done {
+            change,
+            left: psw.left,
+            right: psw.right,
+            timer,
+        }
     }
 }
 
-// Done, with this PSW and this CPU timer.
-pub fn done(want: u32, psw: Psw, timer: u64) -> Single
-    ensures { result ≡ record { want = want; a = 0; left = psw.left; right = psw.right; timer = timer } }
-{
-    Single {
-        want,
-        a: 0,
-        left: psw.left,
-        right: psw.right,
-        timer,
-    }
-}
+// What a unit comes to.
+pub type Single = Result<Done, Want>;
 
 // LOAD PSW (LPSW).
 pub fn load_psw(storage: &[u8], kept: &[u32; 32], psw: Psw, timer: u64, a: usize) -> Single
     requires { Inside storage.now kept.now × (a < 2147483648) }
-    ensures performs { IsDone result → Performs kept.now psw a storage.now Always load_psw (λ c. done_as (psw_in result psw) c.timer c.control) storage.now }
-    ensures timer_value { (result.timer ≡ timer) × (result.a < 2147483648) × (result.want ≡ calm → Near psw (psw_in result psw)) }
+    ensures performs { IfOk result (λ d. Performs kept.now psw a storage.now Always load_psw (λ c. done_as (psw_in d psw) c.timer c.control) storage.now
+        × (d.timer ≡ timer) × IfCalm d.change (Near psw (psw_in d psw))) }
+    ensures wants { IfErr result Below }
 {
-    let p = places::fetch_place(kept, a, 8);
-    if p >= places::NOWHERE {
-        return wanting(FETCH, a as u32, timer);
-    }
+    let Some(p) = places::fetch_place(kept, a, 8) else {
+        return Err(Want::Fetch(a as u32));
+    };
     let new = Psw {
         left: words::word_at(storage, p),
         right: words::word_at(storage, p + 4),
         system370: psw.system370,
     };
-    done(CHANGED, new, timer)
+    Ok(Done::leaving(Change::Changed, new, timer))
 }
 
 // SET CPU TIMER (SPT).
 pub fn set_timer(storage: &[u8], kept: &[u32; 32], psw: Psw, timer: u64, a: usize) -> Single
     requires { Inside storage.now kept.now × (a < 2147483648) }
-    ensures performs { IsDone result → Performs kept.now psw a storage.now Always set_timer (λ c. done_as (psw_in result psw) result.timer c.control) storage.now }
-    ensures a_bound { (result.a < 2147483648) × (result.want ≡ calm → Near psw (psw_in result psw) × (result.timer ≡ timer)) }
+    ensures performs { IfOk result (λ d. Performs kept.now psw a storage.now Always set_timer (λ c. done_as (psw_in d psw) d.timer c.control) storage.now
+        × IfCalm d.change (Near psw (psw_in d psw) × (d.timer ≡ timer))) }
+    ensures wants { IfErr result Below }
 {
-    let p = places::fetch_place(kept, a, 8);
-    if p >= places::NOWHERE {
-        return wanting(FETCH, a as u32, timer);
-    }
+    let Some(p) = places::fetch_place(kept, a, 8) else {
+        return Err(Want::Fetch(a as u32));
+    };
     let high = words::word_at(storage, p) as u64;
     let low = words::word_at(storage, p + 4) as u64;
-    done(CHANGED, cpu::advanced(psw, 2), high * 4294967296 + low)
+    Ok(Done::leaving(
+        Change::Changed,
+        cpu::advanced(psw, 2),
+        high * 4294967296 + low,
+    ))
 }
 
 // A double word, stored at a wrapped logical address on a kept block. Low-address protection is for unit to do.
@@ -119,20 +107,17 @@ fn store_double(
     value: u64,
 ) -> Single
     requires { Inside storage.old kept.now × (a < 2147483648) }
-    ensures stored { IsDone result → Stored kept.now next a (double_bytes value) result storage.old storage.new }
-    ensures storage_unchanged { result.want < calm → storage.new ≡ storage.old }
-    ensures timer_value { (result.timer ≡ timer) × (result.a < 2147483648) }
+    ensures stored { IfOk result (λ d. Stored kept.now next a (double_bytes value) d storage.old storage.new × (d.timer ≡ timer)) }
+    ensures wants { IfErr result (λ w. (storage.new ≡ storage.old) × Below w) }
 {
-    let from = places::store_place(kept, a, 8);
-    if from >= places::NOWHERE {
-        return wanting(STORE, a as u32, timer);
-    }
+    let Some(from) = places::store_place(kept, a, 8) else {
+        return Err(Want::Store(a as u32));
+    };
     if a < 512 {
-        return wanting(OTHER, 0, timer);
+        return Err(Want::Other);
     }
-    let end = from + 8;
-    writer::put_double_part(&mut storage[from..end], value);
-    done(CALM, next, timer)
+    writer::put_part(&mut storage[from..from + 8], &value.to_be_bytes());
+    Ok(Done::leaving(Change::Calm, next, timer))
 }
 
 // STORE CLOCK (STCK).
@@ -146,9 +131,9 @@ pub fn store_clock(
     a: usize,
 ) -> Single
     requires { Inside storage.old kept.now × (a < 2147483648) }
-    ensures performs { IsDone result → Performs kept.now psw a storage.old (AtClock epoch clock) store_clock (λ c. done_as (psw_in result psw) c.timer c.control) storage.new }
-    ensures storage_unchanged { result.want < calm → storage.new ≡ storage.old }
-    ensures timer_value { (result.timer ≡ timer) × (result.a < 2147483648) × (result.want ≡ calm → Wrapped psw (instruction_address (state psw)) → Near psw (psw_in result psw)) }
+    ensures performs { IfOk result (λ d. Performs kept.now psw a storage.old (AtClock epoch clock) store_clock (λ c. done_as (psw_in d psw) c.timer c.control) storage.new
+        × (d.timer ≡ timer) × IfCalm d.change (Wrapped psw (instruction_address (state psw)) → Near psw (psw_in d psw))) }
+    ensures wants { IfErr result (λ w. (storage.new ≡ storage.old) × Below w) }
 {
     let next = cpu::advanced(cpu::with_condition_code(psw, 0), 2);
     store_double(
@@ -164,9 +149,9 @@ pub fn store_clock(
 // STORE CPU TIMER (STPT).
 pub fn store_timer(storage: &mut [u8], kept: &[u32; 32], psw: Psw, timer: u64, a: usize) -> Single
     requires { Inside storage.old kept.now × (a < 2147483648) }
-    ensures performs { IsDone result → Performs kept.now psw a storage.old (AtTimer timer) store_timer (λ c. done_as (psw_in result psw) c.timer c.control) storage.new }
-    ensures storage_unchanged { result.want < calm → storage.new ≡ storage.old }
-    ensures timer_value { (result.timer ≡ timer) × (result.a < 2147483648) × (result.want ≡ calm → Wrapped psw (instruction_address (state psw)) → Near psw (psw_in result psw)) }
+    ensures performs { IfOk result (λ d. Performs kept.now psw a storage.old (AtTimer timer) store_timer (λ c. done_as (psw_in d psw) c.timer c.control) storage.new
+        × (d.timer ≡ timer) × IfCalm d.change (Wrapped psw (instruction_address (state psw)) → Near psw (psw_in d psw))) }
+    ensures wants { IfErr result (λ w. (storage.new ≡ storage.old) × Below w) }
 {
     store_double(storage, kept, cpu::advanced(psw, 2), timer, a, timer)
 }

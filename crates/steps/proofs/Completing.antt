@@ -19,7 +19,7 @@ use Rattle.machine.specs.Execute.{r1, next, finish, sum_code, summed, branch}
 use Rattle.interruptions.specs.After.{left_by, Standing, Left}
 use Rattle.execute.proofs.Ending.{register_set, branched, summed_ends}
 use Rattle.blocks.specs.Keeping.{Block, HasMarks}
-use Rattle.steps.specs.Texting.{short_text, text_frame, done_with}
+use Rattle.steps.specs.Texting.{short_text, text_frame, done_with, done_as}
 use Rattle.steps.proofs.Marking.{marked_text}
 
 -- a branch changes the PSW alone
@@ -42,6 +42,10 @@ set_none c psw sixteen = λ i. record {
   control = c.control;
   general = record { words = set_out c.general.words 16 0 (omega (arith, sixteen)) i };
 }
+
+pub set_unset : (c : Cpu) (psw : Psw) → left_by c (done_as psw c.timer c.control) ≡ with_psw c psw
+unfolding left_by with_psw
+set_unset c psw = refl
 
 module _ (h : Host) (x : Progress) {g : Guest} {clock : ℕ} {c : Cpu} (text : Block) (first second : ℕ)
     (standing : Standing h x g clock c (short_text first second) (text_frame text)) (marks : HasMarks h.keys false text) (psw : Psw) where

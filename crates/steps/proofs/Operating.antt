@@ -1,5 +1,6 @@
 -- Instructions with an operand that stands on a kept block, as their text does.
 -- Assumes nothing.
+use Rattle.std.specs.Prelude.{Ok}
 use Prim.Native.Nat.{ℕ, ◌+◌, ◌-◌, ◌≤◌, ◌<◌}
 use native.Mathlib.Omega.{arith}
 use mathlib.Core.Path.{◌≡◌, refl, ap, sym, subst, ◌∙◌}
@@ -17,14 +18,13 @@ use Rattle.machine.specs.Host.{Host}
 use Rattle.machine.specs.Opcodes.{length_of}
 use Rattle.machine.specs.Outcomes.{Progress}
 use Rattle.machine.specs.Execute.{r1, next, fetching, storing}
-use Rattle.operands.specs.declared.Operand.TheVariants.{Open}
-use Rattle.operands.specs.Operands.{operand_of, in_one_page, to_page_end}
+use Rattle.operands.specs.Operands.{operand_of, in_one_page, to_page_end, in_pieces}
 use Rattle.interruptions.specs.declared.Done.{Done}
 use Rattle.interruptions.specs.declared.Event.TheVariants as event
 use Rattle.interruptions.specs.declared.Frames.{Frames}
 use Rattle.interruptions.specs.After.{left_by, Standing, Left}
 use Rattle.interruptions.proofs.Leaving.{past_it}
-use Rattle.execute.specs.declared.Reached.{Reached}
+use Rattle.pieces.specs.declared.Pieces.{Pieces}
 use Rattle.execute.specs.Reaching.{mark_all, Reaches}
 use Rattle.execute.proofs.Reaching.{not_both, fetched_open, stored_open}
 use Rattle.reader.proofs.Parts.{part_word}
@@ -42,18 +42,18 @@ module _ (h : Host) (g : Guest) (c : Cpu) (b : Block) (stands : Stands h.storage
   abbrev place : ℕ
   place = b.place + d
 
-  abbrev opened : Done → Reached
-  opened done = record { shut = false; first = place; count = n; second = 0; done = done }
+  abbrev opened : Pieces
+  opened = record { first = place; count = n; second = 0 }
 
-  operand_kept : (store : Bool) → Leads g h c store b → (store ≡ true → 512 ≤ a) → operand_of g h c store a n ≡ Open place n 0
+  operand_kept : (store : Bool) → Leads g h c store b → (store ≡ true → 512 ≤ a) → operand_of g h c store a n ≡ in_pieces place n 0
   unfolding operand_of in_one_page
   operand_kept store leads low =
       rw (le-leb n (to_page_end a) (omega (arith, stands.aligned)), leads d (omega arith) (omega (arith, stands.aligned, small)) low)
 
-  reaches_kept : (store : Bool) → Leads g h c store b → (store ≡ true → 512 ≤ a) → (x : Progress) (t : Frames) (done : Done)
-      → h.keys ≡ mark_all t store n place n 0 h.keys → Reaches h g x c t store n (opened done) h.storage h.keys (operand_of g h c store a n)
-  reaches_kept store leads low x t done marks =
-      subst (Reaches h g x c t store n (opened done) h.storage h.keys) (sym (operand_kept store leads low)) (refl, refl, refl, refl, refl, marks)
+  reaches_kept : (store : Bool) → Leads g h c store b → (store ≡ true → 512 ≤ a) → (x : Progress) (t : Frames)
+      → h.keys ≡ mark_all t store n place n 0 h.keys → Reaches h g x c t store n (Ok opened) h.storage h.keys (operand_of g h c store a n)
+  reaches_kept store leads low x t marks =
+      subst (Reaches h g x c t store n (Ok opened) h.storage h.keys) (sym (operand_kept store leads low)) (refl, refl, marks)
 
   module _ (x : Progress) {clock : ℕ} (text : Block) (first second : ℕ) (standing : Standing h x g clock c (short_text first second) (text_frame text))
       (marks : HasMarks h.keys false text) (wrapped : wrap c a ≡ a) where
@@ -62,17 +62,17 @@ module _ (h : Host) (g : Guest) (c : Cpu) (b : Block) (stands : Stands h.storage
         → left_by c done ≡ after (take n (drop place h.storage) ++ take (n - n) (drop 0 h.storage))
         → Left h g c (fetching x a n after) done h.storage h.keys
     fetched_here leads has after done ended left =
-        fetched_open h x standing a n wrapped some (omega arith) (opened done) h.storage h.keys after
-        (reaches_kept false leads (λ store. not_both store refl) x (text_frame text) done (marked_fetched h.keys text marks h.storage b stands d n within some has))
-        refl done ended left
+        fetched_open h x standing a n wrapped some (omega arith) h.storage h.keys after opened
+        (reaches_kept false leads (λ store. not_both store refl) x (text_frame text) (marked_fetched h.keys text marks h.storage b stands d n within some has))
+        done ended left
 
     -- bytes are stored
     pub stored_here : Leads g h c true b → HasMarks h.keys true b → 512 ≤ a → (bytes : List ℕ) → length bytes ≡ n → (to : Cpu) (done : Done) → done.event ≡ event.Completed
         → left_by c done ≡ to → Left h g c (storing x a bytes to) done (sets h.storage place bytes) h.keys
     stored_here leads has low bytes long to done ended left =
-        stored_open h x standing a n wrapped some (omega arith) (opened done) h.storage h.keys bytes to long
-        (reaches_kept true leads (λ _. low) x (text_frame text) done (marked-stored h.keys text marks h.storage b stands d n within some has))
-        refl done ended left (in_one bytes long)
+        stored_open h x standing a n wrapped some (omega arith) h.storage h.keys bytes to long done opened
+        (reaches_kept true leads (λ _. low) x (text_frame text) (marked-stored h.keys text marks h.storage b stands d n within some has))
+        ended left (in_one bytes long)
       where
         in_one : (bytes : List ℕ) → length bytes ≡ n → sets h.storage place bytes ≡ sets (sets h.storage place (take n bytes)) 0 (drop n bytes)
         in_one bytes long = sym (

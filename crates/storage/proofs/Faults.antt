@@ -1,5 +1,6 @@
 -- A host walk that fails does so with a fault of its address, with a code of few bits.
 -- Assumes nothing.
+use Rattle.std.specs.Prelude.{Err, Ok}
 use Prim.Native.Nat.{ℕ, ◌+◌, ◌<◌}
 use native.Mathlib.Omega.{arith}
 use mathlib.Core.Path.{◌≡◌, refl, sym, subst}
@@ -8,13 +9,9 @@ use mathlib.Core.List.{List, []}
 use lib.Dec.{leb, ltb}
 use lib.ListN.{length}
 use Rattle.machine.specs.declared.Failure.{Failure}
-use Rattle.machine.specs.declared.TableEntry.{TableEntry}
-use Rattle.machine.specs.declared.TableEntry.TheVariants.{Word, Unread}
-use Rattle.machine.specs.declared.Walk.{Walk}
-use Rattle.machine.specs.declared.Walk.TheVariants.{Page, Failed}
 use Rattle.machine.specs.Refusals.{frames_of}
 use Rattle.machine.specs.Failures.{addressing, host_fault}
-use Rattle.machine.specs.Walk.{page_index, segment_index, past_segment_table, segment_invalid, segment_malformed, past_page_table, page_invalid, page_malformed, walk_page}
+use Rattle.machine.specs.Walk.{page_index, segment_index, past_segment_table, segment_invalid, segment_malformed, past_page_table, page_invalid, page_malformed, walk_page, TableEntry, Walk}
 use Rattle.machine.specs.Host.{host, host_entry, in_storage, host_page}
 use Rattle.storage.specs.Steps.{read_through, table_leads, segment_leads}
 use Rattle.storage.proofs.Steps.{walk_in_steps}
@@ -26,12 +23,12 @@ pub record Fault (v : ℕ) (f : Failure) : Type 0 where
   pub small : code < 32
 
 abbrev OwnEntry : ℕ → TableEntry → Type 0
-OwnEntry v (Word x) = Unit {0}
-OwnEntry v (Unread f) = Fault v f
+OwnEntry v (Ok x) = Unit {0}
+OwnEntry v (Err f) = Fault v f
 
 abbrev pub OwnWalk : ℕ → Walk → Type 0
-OwnWalk v (Page frame protected) = Unit {0}
-OwnWalk v (Failed f) = Fault v f
+OwnWalk v (Ok page) = Unit {0}
+OwnWalk v (Err f) = Fault v f
 
 either_entry : (v : ℕ) (b : Bool) (x y : TableEntry) → OwnEntry v x → OwnEntry v y → OwnEntry v (cond b x y)
 either_entry v true x y p q = p
@@ -51,8 +48,8 @@ module _ (s : List ℕ) (d v : ℕ) where
 
   own_read : (e : TableEntry) → OwnEntry v e → OwnEntry v (read_through (host_entry s v) e)
   unfolding read_through
-  own_read (Word at) own = own_entry at
-  own_read (Unread f) own = own
+  own_read (Ok at) own = own_entry at
+  own_read (Err f) own = own
 
   own_table : OwnEntry v (table_leads (host_fault v) d v)
   unfolding table_leads
@@ -60,21 +57,21 @@ module _ (s : List ℕ) (d v : ℕ) where
 
   own_segment : (index : ℕ) (e : TableEntry) → OwnEntry v e → OwnEntry v (segment_leads (host_fault v) index e)
   unfolding segment_leads
-  own_segment index (Unread f) own = own
-  own_segment index (Word e) own =
+  own_segment index (Err f) own = own
+  own_segment index (Ok e) own =
       either_entry v (segment_invalid e) _ _ (fault 16 (omega arith))
       (either_entry v (segment_malformed e) _ _ (fault 18 (omega arith)) (either_entry v (past_page_table e index) _ _ (fault 17 (omega arith)) tt))
 
   own_page : (e : TableEntry) → OwnEntry v e → OwnWalk v (walk_page (host_fault v) e)
   unfolding walk_page
-  own_page (Unread f) own = own
-  own_page (Word e) own =
+  own_page (Err f) own = own
+  own_page (Ok e) own =
       either_walk v (page_invalid e) _ _ (fault 17 (omega arith)) (either_walk v (page_malformed e) _ _ (fault 18 (omega arith)) tt)
 
   own_in_storage : (w : Walk) → OwnWalk v w → OwnWalk v (in_storage s v w)
   unfolding in_storage
-  own_in_storage (Failed f) own = own
-  own_in_storage (Page frame protected) own = either_walk v (ltb frame (frames_of s)) _ _ own (fault addressing (omega arith))
+  own_in_storage (Err f) own = own
+  own_in_storage (Ok page) own = either_walk v (ltb page.frame (frames_of s)) _ _ own (fault addressing (omega arith))
 
   pub own_host-page : OwnWalk v (host_page (host d s []) v)
   unfolding host_page

@@ -1,15 +1,15 @@
 -- What was found of the host's entries leads to the host page.
 -- Assumes nothing.
+use Rattle.std.specs.Prelude.{Err}
 use Prim.Native.Nat.{ℕ, ◌%◌, ◌^◌, ◌≤◌, ◌<◌}
 use native.Mathlib.Omega.{arith}
 use mathlib.Core.Path.{◌≡◌, refl, ap, subst, ◌∙◌}
 use mathlib.Core.Bool.{false}
 use mathlib.Core.List.{List, []}
 use borrow.Author.Tests.{lt-ltb, le-ltb}
-use Rattle.machine.specs.declared.Walk.TheVariants.{Page, Failed}
 use Rattle.machine.specs.Refusals.{frames_of}
 use Rattle.machine.specs.Failures.{host_fault}
-use Rattle.machine.specs.Walk.{segment_index, segment_entry_at, past_segment_table, page_index, page_entry_at, past_page_table, frame_of, page_protected, walk_page}
+use Rattle.machine.specs.Walk.{segment_index, segment_entry_at, past_segment_table, page_index, page_entry_at, past_page_table, frame_of, page_protected, walk_page, at_frame}
 use Rattle.machine.specs.Host.{host, host_entry, in_storage, host_page}
 use Rattle.machine.proofs.Backing.{page-in_storage}
 use Rattle.storage.specs.Steps.{read_through, table_leads}
@@ -39,7 +39,7 @@ served_page d s v index w p own serves told = told d (subst (λ i. Serves d s i 
 
 -- the host page that was found for a host virtual address
 module _ (d : ℕ) (s : List ℕ) (v p : ℕ) (found : host_page (host d s []) v ≡ page_found v p) where
-  pub found-page : p < 2 ^ 32 → host_page (host d s []) v ≡ Page (frame_of p) (page_protected p)
+  pub found-page : p < 2 ^ 32 → host_page (host d s []) v ≡ at_frame (frame_of p) (page_protected p)
   unfolding page_found
   found-page low = found ∙ rw (lt-ltb p (2 ^ 32) low)
 
@@ -47,7 +47,7 @@ module _ (d : ℕ) (s : List ℕ) (v p : ℕ) (found : host_page (host d s []) v
   unfolding host_page
   found-in_storage low = (page-in_storage s v _ (found-page low)).1
 
-  pub found-stopped : 2 ^ 32 ≤ p → host_page (host d s []) v ≡ Failed (host_fault v (p % 2 ^ 32))
+  pub found-stopped : 2 ^ 32 ≤ p → host_page (host d s []) v ≡ Err (host_fault v (p % 2 ^ 32))
   unfolding page_found
   found-stopped high = found ∙ rw (le-ltb p (2 ^ 32) high)
 

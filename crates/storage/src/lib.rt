@@ -5,13 +5,13 @@
 ghost use Rattle.std.specs.Prelude.{◌≡◌, cond, List, [], ℕ, ◌+◌, ◌≤◌, ◌<◌};
 ghost use Rattle.machine.specs.Words.{word_at};
 ghost use Rattle.machine.specs.Failures.{addressing, host_fault};
-ghost use Rattle.machine.specs.Walk.{segment_index, page_index, walk_page};
+ghost use Rattle.machine.specs.Walk.{segment_index, page_index, page_malformed, walk_page};
 ghost use Rattle.machine.specs.Host.{host, in_storage, host_page, backing};
 ghost use Rattle.machine.specs.declared.Guest.{Guest};
 ghost use Rattle.storage.specs.Steps.{segment_leads, inside, held_entry};
 ghost use Rattle.storage.specs.Found.{stopped, leads_on, page_found, Serves};
 
-use machine::{Failure, Walk};
+use machine::{Failure, Page, Walk};
 
 const SEGMENT_TRANSLATION: u64 = 0x10;
 
@@ -29,9 +29,10 @@ pub fn word_or(storage: &[u8], at: u32, other: u32) -> u32
     ensures { result ≡ cond (inside storage.now at) (word_at storage.now at) other }
 {
     if at as usize + 4 <= storage.len() {
-        return words::word_at(storage, at as usize);
+        words::word_at(storage, at as usize)
+    } else {
+        other
     }
-    other
 }
 
 // A fault by the entry at a host absolute address: its code, or addressing where the entry lies beyond the storage.
@@ -39,10 +40,12 @@ fn stop_at(storage: &[u8], at: u32, code: u64) -> u64
     requires { code < 32 }
     ensures { result ≡ stopped (cond (inside storage.now at) code addressing) }
 {
-    if at as usize + 4 <= storage.len() {
-        return STOPPED + code;
-    }
-    STOPPED + ADDRESSING
+    STOPPED
+        + if at as usize + 4 <= storage.len() {
+            code
+        } else {
+            ADDRESSING
+        }
 }
 
 // What the host segment entry at a host absolute address says, by a number that is its word where it lies in the storage. Whether it
@@ -51,15 +54,14 @@ fn segment_by_word(storage: &[u8], at: u32, word: u32) -> u64
     ensures { (a : ℕ) → segment_leads (host_fault a) (page_index a) (held_entry storage.now a at word) ≡ leads_on a result }
 {
     if word / 32 % 2 == 1 {
-        return stop_at(storage, at, SEGMENT_TRANSLATION);
+        stop_at(storage, at, SEGMENT_TRANSLATION)
+    } else if word / 2147483648 % 2 == 1 {
+        stop_at(storage, at, TRANSLATION_SPECIFICATION)
+    } else if at as usize + 4 <= storage.len() {
+        word as u64
+    } else {
+        STOPPED + ADDRESSING
     }
-    if word / 2147483648 % 2 == 1 {
-        return stop_at(storage, at, TRANSLATION_SPECIFICATION);
-    }
-    if at as usize + 4 <= storage.len() {
-        return word as u64;
-    }
-    STOPPED + ADDRESSING
 }
 
 // What is found of the host segment entry of an index.
@@ -97,12 +99,20 @@ pub fn segment_for(storage: &[u8], designation: u32, kept: Segment, a: u32) -> S
 {
     let index = a / 1048576;
     if index == kept.index {
-        return kept;
+        kept
+    } else {
+        Segment {
+            index,
+            found: segment_found(storage, designation, index),
+        }
     }
-    Segment {
-        index,
-        found: segment_found(storage, designation, index),
-    }
+}
+
+// One of the bits of a page entry that must be zero is one.
+pub fn page_malformed(word: u32) -> bool
+    ensures { result ≡ page_malformed word }
+{
+    word / 2147483648 % 2 == 1 || word / 2048 % 2 == 1 || word / 256 % 2 == 1
 }
 
 // What the host page entry at a host absolute address says, by a number as in segment_by_word.
@@ -110,24 +120,16 @@ fn page_by_word(storage: &[u8], at: u32, word: u32) -> u64
     ensures { (a : ℕ) → in_storage storage.now a (walk_page (host_fault a) (held_entry storage.now a at word)) ≡ page_found a result }
 {
     if word / 1024 % 2 == 1 {
-        return stop_at(storage, at, PAGE_TRANSLATION);
+        stop_at(storage, at, PAGE_TRANSLATION)
+    } else if page_malformed(word) {
+        stop_at(storage, at, TRANSLATION_SPECIFICATION)
+    } else if at as usize + 4 <= storage.len()
+        && ((word / 4096 % 524288) as usize) < storage.len() / 4096
+    {
+        word as u64
+    } else {
+        STOPPED + ADDRESSING
     }
-    if word / 2147483648 % 2 == 1 {
-        return stop_at(storage, at, TRANSLATION_SPECIFICATION);
-    }
-    if word / 2048 % 2 == 1 {
-        return stop_at(storage, at, TRANSLATION_SPECIFICATION);
-    }
-    if word / 256 % 2 == 1 {
-        return stop_at(storage, at, TRANSLATION_SPECIFICATION);
-    }
-    if at as usize + 4 > storage.len() {
-        return STOPPED + ADDRESSING;
-    }
-    if ((word / 4096 % 524288) as usize) < storage.len() / 4096 {
-        return word as u64;
-    }
-    STOPPED + ADDRESSING
 }
 
 // What is found of the host page entry of a host virtual address, by what was found of its segment entry.
@@ -152,16 +154,17 @@ fn page_of_found(a: u32, found: u64) -> Walk
     ensures { result ≡ page_found a found }
 {
     if found < STOPPED {
-        return Walk::Page {
+        Ok(Page {
             frame: (found / 4096 % 524288) as u32,
             protected: found / 512 % 2 == 1,
-        };
+        })
+    } else {
+        Err(Failure {
+            host: true,
+            code: (found % STOPPED) as u32,
+            address: a,
+        })
     }
-    Walk::Failed(Failure {
-        host: true,
-        code: (found % STOPPED) as u32,
-        address: a,
-    })
 }
 
 // The host page of a host virtual address.
@@ -180,11 +183,12 @@ pub fn backing(storage: &[u8], designation: u32, origin: u16, extent: u16, a: u3
     let absolute = a as u64;
     let virtual_address = origin as u64 * 65536 + absolute;
     if absolute < extent as u64 * 65536 {
-        return host_page(storage, designation, virtual_address as u32);
+        host_page(storage, designation, virtual_address as u32)
+    } else {
+        Err(Failure {
+            host: false,
+            code: ADDRESSING as u32,
+            address: 0,
+        })
     }
-    Walk::Failed(Failure {
-        host: false,
-        code: ADDRESSING as u32,
-        address: 0,
-    })
 }

@@ -1,8 +1,9 @@
 -- An instruction that stores, by what was reached of its operand.
 -- Assumes nothing.
+use Rattle.std.specs.Prelude.{Err, Ok}
 use Prim.Native.Nat.{ℕ, ◌≤◌}
 use mathlib.Core.Path.{◌≡◌, refl, subst, ◌∙◌}
-use mathlib.Core.Bool.{true, false}
+use mathlib.Core.Bool.{true}
 use mathlib.Core.List.{List}
 use lib.ListN.{length, take, drop}
 use lib.Seq.{sets}
@@ -20,7 +21,7 @@ use Rattle.interruptions.specs.declared.Event.TheVariants as event
 use Rattle.interruptions.specs.declared.Frames.{Frames}
 use Rattle.interruptions.specs.After.{left_by, Standing, Left}
 use Rattle.interruptions.proofs.Leaving.{past_it}
-use Rattle.execute.specs.declared.Reached.{Reached}
+use Rattle.pieces.specs.declared.Pieces.{Pieces}
 use Rattle.execute.specs.Reaching.{Reaches, Does}
 use Rattle.execute.proofs.Reaching.{progress_of, at_standing, stored_shut, stored_open}
 
@@ -39,19 +40,19 @@ over_code c code psw = refl
 
 -- n bytes stored at an address; the instruction's own address and bytes are equal to these
 module _ (h : Host) (x : Progress) {g : Guest} {clock : ℕ} {c : Cpu} {text : Text} {t : Frames} (standing : Standing h x g clock c text t)
-    (a n : ℕ) (fits : (wrap c a ≡ a) × (1 ≤ n) × (n ≤ 4096)) (r : Reached) (storage keys : List ℕ)
-    (reaches : Reaches h g x c t true n r storage keys (operand_of g h c true a n)) (bytes : List ℕ) (long : length bytes ≡ n)
-    {place : ℕ} {stored : List ℕ} (at : a ≡ place) (same : bytes ≡ stored) (k : Cpu) where
-  pub storing_none : r.shut ≡ true → Left h g c (storing x place stored (next x k)) r.done storage keys
-  storing_none shut =
-      subst (λ o. Left h g c o r.done storage keys) (λ i. storing x (at i) (same i) (next x k))
-      (stored_shut h x standing a n fits.0 fits.1 fits.2 r storage keys bytes (next x k) long reaches shut)
+    (a n : ℕ) (fits : (wrap c a ≡ a) × (1 ≤ n) × (n ≤ 4096)) (storage keys : List ℕ) (bytes : List ℕ) (long : length bytes ≡ n)
+    {place : ℕ} {stored : List ℕ} (at : a ≡ place) (same : bytes ≡ stored) (k : Cpu) (d : Done) where
+  pub storing_none : Reaches h g x c t true n (Err d) storage keys (operand_of g h c true a n) → Left h g c (storing x place stored (next x k)) d storage keys
+  storing_none reaches =
+      subst (λ o. Left h g c o d storage keys) (λ i. storing x (at i) (same i) (next x k))
+      (stored_shut h x standing a n fits.0 fits.1 fits.2 storage keys bytes (next x k) long d reaches)
 
-  pub storing_all : r.shut ≡ false → (d : Done) {final : List ℕ} (psw : Psw) → d.event ≡ event.Completed → left_by c d ≡ with_psw c psw
+  pub storing_all : (o : Pieces) → Reaches h g x c t true n (Ok o) storage keys (operand_of g h c true a n)
+      → {final : List ℕ} (psw : Psw) → d.event ≡ event.Completed → left_by c d ≡ with_psw c psw
       → with_psw c psw ≡ with_psw k psw → psw ≡ (advanced k text.ilc).psw
-      → final ≡ sets (sets storage r.first (take r.count bytes)) r.second (drop r.count bytes)
+      → final ≡ sets (sets storage o.first (take o.count bytes)) o.second (drop o.count bytes)
       → Left h g c (storing x place stored (next x k)) d final keys
-  storing_all found d {final} psw ended left over moved stores =
+  storing_all o reaches {final} psw ended left over moved stores =
       subst (λ o. Left h g c o d final keys) (λ i. storing x (at i) (same i) (next x k))
-      (stored_open h x standing a n fits.0 fits.1 fits.2 r storage keys bytes (next x k) long reaches found d ended
+      (stored_open h x standing a n fits.0 fits.1 fits.2 storage keys bytes (next x k) long d o reaches ended
       (left ∙ over ∙ past_it h x standing k psw moved) stores)

@@ -1,5 +1,6 @@
 -- The units of a lap, one by one, are steps of the definition, and so is a unit that a lap does not do.
 -- Assumes nothing.
+use Rattle.std.specs.Prelude.{Some}
 use Prim.Native.Nat.{ℕ, suc, ◌+◌, ◌^◌, ◌≤◌, ◌<◌}
 use native.Mathlib.Omega.{arith}
 use native.Mathlib.Numerals.{add-one}
@@ -104,8 +105,7 @@ module _ (n : Numbers) (g : Guest) (d : List ℕ) (of : OfGuest g d) {designatio
         psw = to.psw;
         timer = timers c.timer time k;
         control = c.control;
-        register = turns.register;
-        value = turns.value;
+        set = Some (turns.register, turns.value);
       }
 
       short : active g ≡ true → falls (residues residue time k) time ≡ false
@@ -174,7 +174,7 @@ module _ (n : Numbers) (g : Guest) (d : List ℕ) (of : OfGuest g d) {designatio
       single_step lasting =
           goes_later n g d of c bounded kind request residue small_now clock storage keys requested told done storage' keys left_now refl next lasting
           ((λ i. of_xa (record { psw = psw'; timer = (sym (one_timer timer' time) ∙ ap (timer_after timer') (sym timed)) i; control = record { words = control' }; general = c.general }))
-          ∙ ap (λ k. of_xa (charged k n.time)) (sym (none_set c Completed psw' timer' (record { words = control' }) bounded.general.long)))
+          ∙ ap (λ k. of_xa (charged k n.time)) (sym (none_set c Completed psw' timer' (record { words = control' }))))
           (λ on. ap (falls residue) timed ∙ short_now on) (residues residue time 1)
           (λ on. sym (one_residue residue time (short_now on)) ∙ ap (residue_after residue) (sym timed))
           ∙ ap (λ t. goes (machine_at g d next request (residues residue time 1) t storage' keys)) (ap (clock_after clock) timed ∙ one_clock clock time)

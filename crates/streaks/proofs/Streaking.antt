@@ -8,6 +8,8 @@ use mathlib.Core.Bool.{Bool, true, false}
 use mathlib.Core.List.{List}
 use mathlib.Core.Logic.{◌⊎◌, inl, inr}
 use lib.ListN.{length, get_or, get_or-replicate}
+use Rattle.std.specs.Prelude.{Result, Ok, Err, IfOk, IfErr}
+use Rattle.std.proofs.lemmas.Result.{IfOk-at_ok, IfErr-at_err}
 use Rattle.machine.specs.declared.Cpu.{Cpu}
 use Rattle.machine.specs.declared.Guest.{Guest}
 use Rattle.machine.specs.declared.Psw.{Psw}
@@ -30,13 +32,16 @@ use Rattle.lap.specs.declared.Lap.{Lap}
 use Rattle.lap.specs.Lapping.{stance, Goes, Laps}
 use Rattle.area.specs.Keeping.{Area}
 use Rattle.area.proofs.Holding.{area_none, area_alike}
-use Rattle.special.specs.declared.Single.{Single}
-use Rattle.special.specs.Performing.{calm as wantCalm, IsDone, psw_in, Near}
+use Rattle.special.specs.declared.Want.{Want}
+use Rattle.special.specs.declared.Change.{Change}
+use Rattle.special.specs.declared.Change.TheVariants as change
+use Rattle.special.specs.declared.Done.{Done as Single}
+use Rattle.special.specs.Performing.{IfCalm, psw_in, Near}
 use Rattle.special.specs.Singling.{start, SinglesIn}
 use Rattle.turns.specs.declared.Stand.{Stand}
 use Rattle.streaks.specs.declared.Streak.{Streak}
 use Rattle.streaks.specs.Streaking.{after_streak, unbegun, Paced}
-use Rattle.turns.specs.Turning.{psw_of, none_kept, Charged, Lapped, Stays, Behind, Anew, Same, GuardedAlike, Emptied, Passed}
+use Rattle.turns.specs.Turning.{Low, none_kept, Charged, Lapped, Stays, Behind, Anew, Same, GuardedAlike, Emptied, ByChange, Passed}
 use Rattle.keeping.specs.Keeping.{Keeping}
 use Rattle.turns.proofs.Rising.{residue_below}
 use Rattle.streaks.proofs.Lapping.{small_clock, small_timer, units_on, single_on}
@@ -82,7 +87,7 @@ hold words control storage guard kept = record { words = words; control = contro
 -- the streak so far
 abbrev pub streak_of : Stand → List ℕ → List ℕ → Streak
 streak_of s words control = record {
-  psw = psw_of s;
+  psw = s.psw;
   timer = s.timer;
   clock = s.clock;
   control = record { words = control };
@@ -108,11 +113,11 @@ pub record Ahead (o : Course) (s : Stand) (h : Hold) : Type 0 where
   pub within : s.units + s.most ≤ o.budget
   pub calm : Calm o.guest s.clock o.time o.requested (cpu_of s h) s.most
   pub rising : active o.guest ≡ true → residues s.residue o.time s.most < period
-  pub wrapped : 0 < s.most → Wrapped (psw_of s) (instruction_address (state (psw_of s)))
+  pub wrapped : 0 < s.most → Wrapped s.psw (instruction_address (state s.psw))
 
 -- the blocks that are kept, and the place of the prefix page
 pub record Table (o : Course) (s : Stand) (h : Hold) : Type 0 where
-  pub holds : Holds h.guard o.guest (host_in o h) (seen (psw_of s) (record { words = h.control })) h.kept
+  pub holds : Holds h.guard o.guest (host_in o h) (seen s.psw (record { words = h.control })) h.kept
   pub inside : Inside h.storage h.kept
   pub marks : Marks o.keys h.kept
   pub free : Free h.guard h.kept
@@ -124,7 +129,7 @@ pub record Onward (o : Course) (s : Stand) (h : Hold) : Type 0 where
   pub ahead : Ahead o s h
   pub table : Table o s h
   pub few : 0 < s.most → s.tries ≤ 7
-  pub small : s.a < 2147483648
+  pub small : Low s.next
   pub long : length h.storage ≡ length o.storage
 
 -- what is left to try falls with each turn
@@ -144,21 +149,18 @@ falls_stays budget s t few stays = omega (arith, stays.units, stays.tried)
 
 abbrev stand_at : Psw → ℕ → ℕ → ℕ → ℕ → Stand → Stand
 stand_at p timer clock units area r = record {
-  left = p.left;
-  right = p.right;
-  system370 = p.system370;
+  psw = p;
   timer = timer;
   clock = clock;
   residue = r.residue;
   units = units;
   most = r.most;
-  want = r.want;
-  a = r.a;
+  next = r.next;
   area = area;
   tries = r.tries;
 }
 
-stands_at : (r : Stand) {p : Psw} {timer clock units area : ℕ} → psw_of r ≡ p → r.timer ≡ timer → r.clock ≡ clock → r.units ≡ units → r.area ≡ area
+stands_at : (r : Stand) {p : Psw} {timer clock units area : ℕ} → r.psw ≡ p → r.timer ≡ timer → r.clock ≡ clock → r.units ≡ units → r.area ≡ area
     → stand_at p timer clock units area r ≡ r
 stands_at r psw timer clock units area = λ i. stand_at (sym psw i) (sym timer i) (sym clock i) (sym units i) (sym area i) r
 
@@ -178,7 +180,7 @@ none_streak o bounded small r none =
 -- no block is kept
 empty_table : (o : Course) (s : Stand) (h : Hold) → 2147483648 ≤ s.area → h.kept ≡ none_kept → Table o s h
 empty_table o s h nowhere empty = record {
-  holds = none_holds h.kept none h.guard o.guest (host_in o h) (seen (psw_of s) (record { words = h.control }));
+  holds = none_holds h.kept none h.guard o.guest (host_in o h) (seen s.psw (record { words = h.control }));
   inside = none_inside h.kept none h.storage;
   marks = none_marks h.kept none o.keys;
   free = none_free h.kept none h.guard;
@@ -189,11 +191,11 @@ empty_table o s h nowhere empty = record {
     none i few = ap (λ k. get_or k i 0) empty ∙ get_or-replicate 32 i 2147483648 0 few
 
 -- the table stays where accesses are guarded alike, and the storage is alike in the frames that the guard names
-same_table : (o : Course) (s : Stand) (h : Hold) → Table o s h → (t : Stand) (words control storage : List ℕ) → Alike h.guard h.storage storage → AccessAlike (psw_of s) (psw_of t)
+same_table : (o : Course) (s : Stand) (h : Hold) → Table o s h → (t : Stand) (words control storage : List ℕ) → Alike h.guard h.storage storage → AccessAlike s.psw t.psw
     → get_or control 0 0 ≡ get_or h.control 0 0 → get_or control 1 0 ≡ get_or h.control 1 0 → t.area ≡ s.area → Table o t (hold words control storage h.guard h.kept)
 same_table o s h table t words control storage alike accesses zeroth first place = record {
-  holds = holds_controls h.guard o.guest (host o.designation storage o.keys) (seen (psw_of s) (record { words = h.control })) (seen (psw_of t) (record { words = control })) h.kept accesses zeroth first
-      (holds_alike h.guard o.guest o.designation h.storage storage o.keys (seen (psw_of s) (record { words = h.control })) h.kept alike table.holds);
+  holds = holds_controls h.guard o.guest (host o.designation storage o.keys) (seen s.psw (record { words = h.control })) (seen t.psw (record { words = control })) h.kept accesses zeroth first
+      (holds_alike h.guard o.guest o.designation h.storage storage o.keys (seen s.psw (record { words = h.control })) h.kept alike table.holds);
   inside = inside_on h.storage storage alike.long h.kept table.inside;
   marks = table.marks;
   free = table.free;
@@ -202,8 +204,8 @@ same_table o s h table t words control storage alike accesses zeroth first place
 }
 
 -- nothing is done yet, and no block kept
-pub onward-start : (o : Course) → Bounded o.start → o.residue < period → o.clock < 2 ^ 64 → (s : Stand) → psw_of s ≡ o.start.psw → s.timer ≡ o.start.timer → s.clock ≡ o.clock
-    → s.residue ≡ o.residue → s.units ≡ 0 → s.tries ≡ 0 → s.a < 2147483648 → 2147483648 ≤ s.area → s.most ≤ o.budget
+pub onward-start : (o : Course) → Bounded o.start → o.residue < period → o.clock < 2 ^ 64 → (s : Stand) → s.psw ≡ o.start.psw → s.timer ≡ o.start.timer → s.clock ≡ o.clock
+    → s.residue ≡ o.residue → s.units ≡ 0 → s.tries ≡ 0 → Low s.next → 2147483648 ≤ s.area → s.most ≤ o.budget
     → Calm o.guest o.clock o.time o.requested o.start s.most → (active o.guest ≡ true → residues o.residue o.time s.most < period)
     → (0 < s.most → Wrapped o.start.psw (instruction_address (state o.start.psw))) → (guard : List ℕ)
     → Onward o s (hold o.start.general.words o.start.control.words o.storage guard none_kept)
@@ -223,32 +225,26 @@ onward-start o bounded small word s psw timer clock residue units tries low nowh
 
     first : Stand
     first = record {
-      left = o.start.psw.left;
-      right = o.start.psw.right;
-      system370 = o.start.psw.system370;
+      psw = o.start.psw;
       timer = o.start.timer;
       clock = o.clock;
       residue = o.residue;
       units = 0;
       most = s.most;
-      want = s.want;
-      a = s.a;
+      next = s.next;
       area = s.area;
       tries = s.tries;
     }
 
     same : first ≡ s
     same = λ i. record {
-      left = (sym psw i).left;
-      right = (sym psw i).right;
-      system370 = (sym psw i).system370;
+      psw = sym psw i;
       timer = sym timer i;
       clock = sym clock i;
       residue = sym residue i;
       units = sym units i;
       most = s.most;
-      want = s.want;
-      a = s.a;
+      next = s.next;
       area = s.area;
       tries = s.tries;
     }
@@ -270,34 +266,34 @@ module _ (o : Course) (s : Stand) (h : Hold) (on : Onward o s h) {timed : Bool} 
 -- a lap
 module _ (o : Course) (kind : o.start.psw.system370 ≡ system370_mode o.guest.mode) {timed : Bool} (told : timed ≡ active o.guest) (s : Stand) (h : Hold) (on : Onward o s h) (some : 0 < s.most)
     (l : Lap) (words storage : List ℕ)
-    (lap : (l.units ≤ s.most) × (l.code < 4) × (l.address < 2147483648) × (l.a < 2147483648) × Sixteen words × Laps h.kept (psw_of s) h.words h.storage l words storage)
+    (lap : (l.units ≤ s.most) × (l.code < 4) × (l.address < 2147483648) × (l.a < 2147483648) × Sixteen words × Laps h.kept s.psw h.words h.storage l words storage)
     (t : Stand) (lapped : Lapped timed o.time s l t) where
   abbrev held : Hold
   held = hold words h.control storage h.guard h.kept
 
   abbrev moved : Psw
-  moved = psw_at (psw_of s) l.address l.code
+  moved = psw_at s.psw l.address l.code
 
   abbrev to : Stand
   to = stand_at moved (timers s.timer o.time l.units) (clocks s.clock o.time l.units) (s.units + l.units) s.area t
 
-  left : s.left < 2 ^ 32
+  left : s.psw.left < 2 ^ 32
   left = on.paced.bounded.left
 
-  right : s.right < 2 ^ 32
+  right : s.psw.right < 2 ^ 32
   right = on.paced.bounded.right
 
-  laps_both : Goes (psw_of s) o.guest o.designation o.keys (record { words = h.control }) (stance (psw_of s) h.words h.storage) l.units (stance moved words storage) × Alike h.guard h.storage storage
+  laps_both : Goes s.psw o.guest o.designation o.keys (record { words = h.control }) (stance s.psw h.words h.storage) l.units (stance moved words storage) × Alike h.guard h.storage storage
   laps_both = lap.5 o.guest o.designation o.keys h.guard (record { words = h.control }) (on.ahead.wrapped some) on.table.marks on.table.free on.table.holds
 
-  same_kind : to.system370 ≡ s.system370
-  same_kind = system370_at (psw_of s) left right l.address l.code lap.1 (cpu_of to held) refl
+  same_kind : to.psw.system370 ≡ s.psw.system370
+  same_kind = system370_at s.psw left right l.address l.code lap.1 (cpu_of to held) refl
 
   lap_paced : Done o to held
   lap_paced = record {
     bounded = record {
-      left = fits_left (psw_of s) left right l.address l.code lap.1;
-      right = fits_right (psw_of s) left right l.address l.code lap.1;
+      left = fits_left s.psw left right l.address l.code lap.1;
+      right = fits_right s.psw left right l.address l.code lap.1;
       timer = small_timer s.timer o.time l.units;
       control = on.paced.bounded.control;
       general = lap.4;
@@ -320,7 +316,7 @@ module _ (o : Course) (kind : o.start.psw.system370 ≡ system370_mode o.guest.m
         (calm-after o.guest s.clock o.time o.requested (cpu_of s h) s.most l.units (cpu_of to held) left right lap.0 on.ahead.calm
         (record { address = l.address; code = l.code; small = lap.1; psw = refl; control = refl }) refl);
     rising = rises_on o s h on told t l.units lapped.charged lap.0 lapped.fewer;
-    wrapped = λ _. wrapped_at (psw_of s) left right l.address l.code lap.1;
+    wrapped = λ _. wrapped_at s.psw left right l.address l.code lap.1;
   }
 
   pub onward_lap : Onward o t held
@@ -329,42 +325,36 @@ module _ (o : Course) (kind : o.start.psw.system370 ≡ system370_mode o.guest.m
     word = small_clock s.clock o.time l.units;
     ahead = lap_ahead;
     table = same_table o s h on.table to words h.control storage laps_both.1
-        (record { left = left_at (psw_of s) left right l.address l.code lap.1 (cpu_of to held) refl; system370 = same_kind }) refl refl refl;
+        (record { left = left_at s.psw left right l.address l.code lap.1 (cpu_of to held) refl; system370 = same_kind }) refl refl refl;
     few = lapped.few;
-    small = rw lapped.a lap.3;
+    small = lapped.small lap.3;
     long = laps_both.1.long ∙ on.long;
   })
 
 -- no unit is done
-module _ (o : Course) (s : Stand) (h : Hold) (on : Onward o s h) (t : Stand) (stays : Stays s t) (low : t.a < 2147483648) where
+module _ (o : Course) (s : Stand) (h : Hold) (on : Onward o s h) (t : Stand) (stays : Stays s t) (low : Low t.next) where
   abbrev rested : Stand
   rested = record {
-    left = s.left;
-    right = s.right;
-    system370 = s.system370;
+    psw = s.psw;
     timer = s.timer;
     clock = s.clock;
     residue = s.residue;
     units = s.units;
     most = t.most;
-    want = t.want;
-    a = t.a;
+    next = t.next;
     area = t.area;
     tries = t.tries;
   }
 
   rests : rested ≡ t
   rests = λ i. record {
-    left = (sym stays.psw i).left;
-    right = (sym stays.psw i).right;
-    system370 = (sym stays.psw i).system370;
+    psw = sym stays.psw i;
     timer = sym stays.timer i;
     clock = sym stays.clock i;
     residue = sym stays.residue i;
     units = sym stays.units i;
     most = t.most;
-    want = t.want;
-    a = t.a;
+    next = t.next;
     area = t.area;
     tries = t.tries;
   }
@@ -410,45 +400,48 @@ onward_keeping o s h on t guard kept keeping = onward_rests o s h on t keeping.s
 })
 
 -- a unit that a lap does not do came to this
-pub record Came (o : Course) (s : Stand) (h : Hold) (r : Single) (control storage : List ℕ) : Type 0 where
-  pub done : IsDone r → SinglesIn o.designation o.keys o.guest s.clock (start (psw_of s) s.timer h.words h.control) h.kept s.area h.storage r control storage
-  pub idle : r.want < wantCalm → (storage ≡ h.storage) × (control ≡ h.control)
-  pub calmly : r.want ≡ wantCalm → Near (psw_of s) (psw_in r (psw_of s)) × (r.timer ≡ s.timer) × (control ≡ h.control)
+pub record Came (o : Course) (s : Stand) (h : Hold) (r : Result Single Want) (control storage : List ℕ) : Type 0 where
+  pub done : IfOk r (λ d. SinglesIn o.designation o.keys o.guest s.clock (start s.psw s.timer h.words h.control) h.kept s.area h.storage d control storage
+      × IfCalm d.change (Near s.psw (psw_in d s.psw) × (d.timer ≡ s.timer) × (control ≡ h.control)))
+  pub idle : IfErr r (λ _. (storage ≡ h.storage) × (control ≡ h.control))
   pub sixteen : Sixteen control
 
 -- a unit that a lap does not do
 module _ (o : Course) (kind : o.start.psw.system370 ≡ system370_mode o.guest.mode) {timed : Bool} (told : timed ≡ active o.guest) (s : Stand) (h : Hold) (on : Onward o s h) (some : 0 < s.most)
-    (r : Single) (control storage : List ℕ) (came : Came o s h r control storage) (t : Stand) (guard kept : List ℕ) {cr0 cr1 : ℕ}
+    (r : Result Single Want) (control storage : List ℕ) (came : Came o s h r control storage) (t : Stand) (guard kept : List ℕ) {cr0 cr1 : ℕ}
     (passed : Passed o.guest o.requested timed o.time o.budget cr0 cr1 s r control h.guard h.kept t guard kept)
     (zeroth : cr0 ≡ get_or h.control 0 0) (first : cr1 ≡ get_or h.control 1 0) where
   abbrev result : Type 0
   result = Onward o t (hold h.words control storage guard kept)
 
   -- it was not done
-  passed_idle : r.want < wantCalm → result
-  passed_idle less =
-      let at = passed.idle less in
-      let none = came.idle less in
+  passed_idle : (w : Want) → r ≡ Err w → result
+  passed_idle w is =
+      let at = IfErr-at_err _ is passed.idle in
+      let none = IfErr-at_err _ is came.idle in
       subst (λ k. Onward o t (hold h.words k storage guard kept)) (sym none.1)
       (subst (λ k. Onward o t (hold h.words h.control k guard kept)) (sym none.0)
       (onward_stays o s h on t at.0 passed.small guard kept at.1))
 
   -- it was
-  module _ (done : IsDone r) where
+  module _ (d : Single) (is : r ≡ Ok d) where
     abbrev next : Stand
-    next = stand_at (psw_in r (psw_of s)) (timers r.timer o.time 1) (clocks s.clock o.time 1) (s.units + 1) t.area t
+    next = stand_at (psw_in d s.psw) (timers d.timer o.time 1) (clocks s.clock o.time 1) (s.units + 1) t.area t
 
-    abbrev behind : Behind timed o.time s r t
-    behind = passed.done done
+    abbrev singles : SinglesIn o.designation o.keys o.guest s.clock (start s.psw s.timer h.words h.control) h.kept s.area h.storage d control storage
+    singles = (IfOk-at_ok _ is came.done).0
+
+    abbrev behind : Behind timed o.time s d t
+    behind = (IfOk-at_ok _ is passed.done).0
 
     abbrev reached : Hold
     reached = hold h.words control storage guard kept
 
     alike : Alike h.guard h.storage storage
-    alike = (came.done done h.guard (on.ahead.wrapped some) on.table.marks on.table.free on.table.holds on.table.area).1
+    alike = (singles h.guard (on.ahead.wrapped some) on.table.marks on.table.free on.table.holds on.table.area).1
 
     lasts : Bounded (cpu_of next reached)
-    lasts = record { left = behind.left; right = behind.right; timer = small_timer r.timer o.time 1; control = came.sixteen; general = on.paced.bounded.general }
+    lasts = record { left = behind.left; right = behind.right; timer = small_timer d.timer o.time 1; control = came.sixteen; general = on.paced.bounded.general }
 
     same_next : next ≡ t
     same_next = stands_at t behind.psw behind.timer behind.charged.clock behind.charged.units refl
@@ -458,13 +451,13 @@ module _ (o : Course) (kind : o.start.psw.system370 ≡ system370_mode o.guest.m
       bounded = lasts;
       architecture = on.paced.architecture;
       small = rest-small o s h on told t 1 behind.charged (omega arith);
-      remains = λ n d request designated clocked of asked.
-          subst (Remains n o.budget (machine_at o.guest d o.start request o.residue o.clock o.storage o.keys) (s.units + 1))
-          (residue_any o.guest d (cpu_of next reached) request next.clock storage o.keys (λ runs. sym (behind.charged.rises (told ∙ runs))))
-          (single_on n o.guest d of designated clocked request o.requested asked o.keys (cpu_of s h) on.paced.bounded (on.paced.architecture ∙ kind) s.residue s.clock s.most on.ahead.calm
-          on.ahead.rising on.word h.storage o.budget (machine_at o.guest d o.start request o.residue o.clock o.storage o.keys) s.units on.ahead.within
-          (on.paced.remains n d request designated clocked of asked) some (on.ahead.wrapped some) (psw_in r (psw_of s)) r.timer control storage
-          ((came.done done h.guard (on.ahead.wrapped some) on.table.marks on.table.free on.table.holds on.table.area).0 (cpu_of s h) refl refl refl refl) lasts);
+      remains = λ n d' request designated clocked of asked.
+          subst (Remains n o.budget (machine_at o.guest d' o.start request o.residue o.clock o.storage o.keys) (s.units + 1))
+          (residue_any o.guest d' (cpu_of next reached) request next.clock storage o.keys (λ runs. sym (behind.charged.rises (told ∙ runs))))
+          (single_on n o.guest d' of designated clocked request o.requested asked o.keys (cpu_of s h) on.paced.bounded (on.paced.architecture ∙ kind) s.residue s.clock s.most on.ahead.calm
+          on.ahead.rising on.word h.storage o.budget (machine_at o.guest d' o.start request o.residue o.clock o.storage o.keys) s.units on.ahead.within
+          (on.paced.remains n d' request designated clocked of asked) some (on.ahead.wrapped some) (psw_in d s.psw) d.timer control storage
+          ((singles h.guard (on.ahead.wrapped some) on.table.marks on.table.free on.table.holds on.table.area).0 (cpu_of s h) refl refl refl refl) lasts);
     }
 
     passed_done : Ahead o t reached → Table o t reached → result
@@ -479,73 +472,74 @@ module _ (o : Course) (kind : o.start.psw.system370 ≡ system370_mode o.guest.m
     }
 
     -- with guard and table as they were
-    passed_table : t.left / 16384 ≡ s.left / 16384 → get_or control 0 0 ≡ get_or h.control 0 0 → get_or control 1 0 ≡ get_or h.control 1 0 → Same s h.guard h.kept t guard kept → Table o t reached
+    passed_table : t.psw.left / 16384 ≡ s.psw.left / 16384 → get_or control 0 0 ≡ get_or h.control 0 0 → get_or control 1 0 ≡ get_or h.control 1 0 → Same s h.guard h.kept t guard kept → Table o t reached
     passed_table psw zero_same one_same same =
         subst (λ k. Table o t (hold h.words control storage guard k)) (sym same.2)
         (subst (λ k. Table o t (hold h.words control storage k h.kept)) (sym same.1)
         (same_table o s h on.table t h.words control storage alike (record { left = psw; system370 = ap (λ p. p.system370) behind.psw }) zero_same one_same same.0))
 
-  passed_calm : r.want ≡ wantCalm → result
-  passed_calm is =
-      passed_done done
-      (subst (λ k. Ahead o k (reached done)) (same_next done) (record {
-        within = omega (arith, on.ahead.within, at.0);
-        calm = subst (Calm o.guest (clocks s.clock o.time 1) o.time o.requested (cpu_of (next done) (reached done))) (sym at.0)
-            (calm-after o.guest s.clock o.time o.requested (cpu_of s h) s.most 1 (cpu_of (next done) (reached done)) on.paced.bounded.left on.paced.bounded.right (omega arith) on.ahead.calm
-            (record { address = near.0.address; code = near.0.code; small = near.0.small; psw = near.0.own; control = λ i. record { words = near.2 i } })
-            (ap (λ x. timers x o.time 1) near.1));
-        rising = rises_on o s h on told t 1 (behind done).charged (omega arith) (omega (arith, at.0));
-        wrapped = λ _. subst (λ p. Wrapped p (instruction_address (state p))) (sym near.0.own)
-            (wrapped_at (psw_of s) on.paced.bounded.left on.paced.bounded.right near.0.address near.0.code near.0.small);
-      }))
-      (passed_table done
-      (ap (λ p. p.left / 16384) (behind done).psw
-      ∙ left_at (psw_of s) on.paced.bounded.left on.paced.bounded.right near.0.address near.0.code near.0.small (cpu_of (next done) (reached done)) near.0.own)
-      (ap (λ k. get_or k 0 0) near.2) (ap (λ k. get_or k 1 0) near.2) at.1)
-    where
-      done : IsDone r
-      done = omega arith
+    abbrev StaysCalm : Type 0
+    StaysCalm = Near s.psw (psw_in d s.psw) × (d.timer ≡ s.timer) × (control ≡ h.control)
 
-      near : Near (psw_of s) (psw_in r (psw_of s)) × (r.timer ≡ s.timer) × (control ≡ h.control)
-      near = came.calmly is
+    abbrev OneFewer : Type 0
+    OneFewer = (t.most ≡ s.most - 1) × Same s h.guard h.kept t guard kept
 
-      at : (t.most ≡ s.most - 1) × Same s h.guard h.kept t guard kept
-      at = passed.calmly is
+    passed_calm : StaysCalm → OneFewer → result
+    passed_calm near at =
+        passed_done
+        (subst (λ k. Ahead o k reached) same_next (record {
+          within = omega (arith, on.ahead.within, at.0);
+          calm = subst (Calm o.guest (clocks s.clock o.time 1) o.time o.requested (cpu_of next reached)) (sym at.0)
+              (calm-after o.guest s.clock o.time o.requested (cpu_of s h) s.most 1 (cpu_of next reached) on.paced.bounded.left on.paced.bounded.right (omega arith) on.ahead.calm
+              (record { address = near.0.address; code = near.0.code; small = near.0.small; psw = near.0.own; control = λ i. record { words = near.2 i } })
+              (ap (λ x. timers x o.time 1) near.1));
+          rising = rises_on o s h on told t 1 behind.charged (omega arith) (omega (arith, at.0));
+          wrapped = λ _. subst (λ p. Wrapped p (instruction_address (state p))) (sym near.0.own)
+              (wrapped_at s.psw on.paced.bounded.left on.paced.bounded.right near.0.address near.0.code near.0.small);
+        }))
+        (passed_table
+        (ap (λ p. p.left / 16384) behind.psw
+        ∙ left_at s.psw on.paced.bounded.left on.paced.bounded.right near.0.address near.0.code near.0.small (cpu_of next reached) near.0.own)
+        (ap (λ k. get_or k 0 0) near.2) (ap (λ k. get_or k 1 0) near.2) at.1)
 
-  passed_anew : wantCalm < r.want → result
-  passed_anew above =
-      passed_done done
-      (record { within = found.within; calm = found.calm (cpu_of t (reached done)) refl refl refl; rising = λ runs. found.rising (told ∙ runs); wrapped = found.wrapped })
-      (by_table (passed.anew above).1)
-    where
-      done : IsDone r
-      done = omega arith
+    abbrev FoundAnew : Type 0
+    FoundAnew = Anew o.guest o.requested timed o.time o.budget control t × ((GuardedAlike cr0 cr1 s control t × Same s h.guard h.kept t guard kept) ⊎ Emptied t kept)
 
-      found : Anew o.guest o.requested timed o.time o.budget control t
-      found = (passed.anew above).0
+    passed_anew : FoundAnew → result
+    passed_anew (found, tables) =
+        passed_done
+        (record { within = found.within; calm = found.calm (cpu_of t reached) refl refl refl; rising = λ runs. found.rising (told ∙ runs); wrapped = found.wrapped })
+        (by_table tables)
+      where
+        by_table : (GuardedAlike cr0 cr1 s control t × Same s h.guard h.kept t guard kept) ⊎ Emptied t kept → Table o t reached
+        by_table (inl (guarded, same)) = passed_table guarded.2 (guarded.0 ∙ zeroth) (guarded.1 ∙ first) same
+        by_table (inr (nowhere, empty)) = empty_table o t reached nowhere empty
 
-      by_table : (GuardedAlike cr0 cr1 s control t × Same s h.guard h.kept t guard kept) ⊎ Emptied t kept → Table o t (reached done)
-      by_table (inl (guarded, same)) = passed_table done guarded.2 (guarded.0 ∙ zeroth) (guarded.1 ∙ first) same
-      by_table (inr (nowhere, empty)) = empty_table o t (reached done) nowhere empty
+    by_change : (change : Change) → IfCalm change StaysCalm → ByChange change OneFewer FoundAnew → result
+    by_change change.Calm near at = passed_calm near at
+    by_change change.Called near at = passed_anew at
+    by_change change.Changed near at = passed_anew at
+
+    passed_ok : result
+    passed_ok = by_change d.change (IfOk-at_ok _ is came.done).1 (IfOk-at_ok _ is passed.done).1
 
   pub onward_passed : result
-  onward_passed = by_want (eq-zero-or-pos (32 - r.want)) (eq-zero-or-pos (r.want - 32))
+  onward_passed = by_result r refl
     where
-      by_want : (32 - r.want ≡ 0) ⊎ (0 < 32 - r.want) → (r.want - 32 ≡ 0) ⊎ (0 < r.want - 32) → result
-      by_want (inr below) _ = passed_idle (omega arith)
-      by_want (inl least) (inl most) = passed_calm (omega arith)
-      by_want (inl least) (inr above) = passed_anew (omega arith)
+      by_result : (q : Result Single Want) → r ≡ q → result
+      by_result (Ok d) is = passed_ok d is
+      by_result (Err w) is = passed_idle w is
 
   pub falls_passed : 8 * (o.budget - t.units) + (8 - t.tries) < 8 * (o.budget - s.units) + (8 - s.tries)
-  falls_passed = by_want (eq-zero-or-pos (32 - r.want))
+  falls_passed = by_result r refl
     where
-      by_want : (32 - r.want ≡ 0) ⊎ (0 < 32 - r.want) → 8 * (o.budget - t.units) + (8 - t.tries) < 8 * (o.budget - s.units) + (8 - s.tries)
-      by_want (inr below) =
-          let stays = (passed.idle (omega arith)).0 in
-          omega (arith, on.ahead.within, on.few some, stays.units, stays.tried)
-      by_want (inl least) =
-          let behind = passed.done (omega arith) in
+      by_result : (q : Result Single Want) → r ≡ q → 8 * (o.budget - t.units) + (8 - t.tries) < 8 * (o.budget - s.units) + (8 - s.tries)
+      by_result (Ok d) is =
+          let behind = (IfOk-at_ok _ is passed.done).0 in
           omega (arith, on.ahead.within, on.few some, some, behind.charged.units, behind.tries)
+      by_result (Err w) is =
+          let stays = (IfErr-at_err _ is passed.idle).0 in
+          omega (arith, on.ahead.within, on.few some, stays.units, stays.tried)
 
 -- nothing changed but the guard and table
 pub onward_idle : (o : Course) (s : Stand) {words control storage guard kept : List ℕ} → Onward o s (hold words control storage guard kept) → {control' storage' : List ℕ} → storage' ≡ storage → control' ≡ control

@@ -2,7 +2,7 @@
 // tick.
 #![tactic(auto)]
 
-ghost use Rattle.std.specs.Prelude.{◌≡◌, ◌&&◌, ◌≤◌, ◌<◌, length};
+ghost use Rattle.std.specs.Prelude.{◌≡◌, ◌≤◌, ◌<◌, length};
 ghost use Rattle.machine.specs.Refusals.{most_time, frames_of};
 ghost use Rattle.machine.specs.Interval.{active, period};
 ghost use Rattle.machine.specs.Record.{system370_mode, Bounded};
@@ -11,7 +11,8 @@ ghost use Rattle.charging.specs.Ending.{of_mode};
 ghost use Rattle.streaks.specs.Streaking.{after_streak, unbegun, Paced};
 
 use machine::{Cpu, Guest, Psw, Registers};
-use turns::Stand;
+use special::Want;
+use turns::{Next, Stand};
 
 // What a streak leaves: the state, the host clock, the units completed, and the interval timer's residue.
 #[derive(Clone, Copy)]
@@ -30,16 +31,6 @@ pub struct Streak {
 pub struct Pace {
     pub wait: u32,
     pub pause: u32,
-}
-
-// Both hold.
-pub fn both(x: bool, y: bool) -> bool
-    ensures { result ≡ (x && y) }
-{
-    if x {
-        return y;
-    }
-    false
 }
 
 // The streak of no units.
@@ -92,62 +83,113 @@ fn run_streak(
     let text = cpu::wrapped(psw, cpu::instruction_address(psw) as u64);
     let mut kept = [pages::NO_BLOCK; 32];
     let mut guard = [0; 64];
-    let ones: [u32; 16] = [0, 1, 1, 1, 1, 1, 1, 1, 1, 1, 1, 1, 1, 1, 1, 1];
     let mut general = start.general;
     let mut s = Stand {
-        left: psw.left,
-        right: psw.right,
-        system370: psw.system370,
+        psw,
         timer: start.timer,
         clock,
         residue,
         units: 0,
         most: horizon,
-        want: lap::FETCH,
-        a: text,
+        next: Next::Block {
+            single: false,
+            store: false,
+            a: text,
+        },
         area: area::NO_AREA,
         tries: 0,
     };
     while s.most > 0 {
-        let psw = Psw {
-            left: s.left,
-            right: s.right,
-            system370: s.system370,
-        };
-        if s.want == lap::DONE {
-            let l = lap::units(storage, &mut general.words, &ones, &kept, psw, s.most);
-            s = turns::lapped(timed, time, s, l);
-        } else {
-            let cr0 = control.words[0];
-            let cr1 = control.words[1];
-            if s.want == lap::SPECIAL {
+        s = match s.next {
+            Next::Other => break,
+            Next::Lap => {
+                let l = lap::units(storage, &mut general.words, &kept, s.psw, s.most);
+                turns::lapped(timed, time, s, l)
+            }
+            Next::Area => keeping::keep_area(
+                storage,
+                keys,
+                &mut guard,
+                &mut kept,
+                designation,
+                guest,
+                s,
+            ),
+            Next::Block { single, store, a } => keeping::keep_block(
+                storage,
+                keys,
+                &mut guard,
+                &mut kept,
+                &control.words,
+                designation,
+                guest,
+                s,
+                single,
+                store,
+                a,
+            ),
+            Next::Denied { store, a } => {
+                let cr0 = control.words[0];
+                let cr1 = control.words[1];
+                let r = denials::unit(
+                    storage,
+                    keys,
+                    &control.words,
+                    &general.words,
+                    &kept,
+                    s.area,
+                    designation,
+                    guest,
+                    s.psw,
+                    s.timer,
+                    store,
+                    a,
+                );
+                turns::passed(
+                    &mut guard,
+                    &mut kept,
+                    &control.words,
+                    guest,
+                    requested,
+                    timed,
+                    time,
+                    budget,
+                    cr0,
+                    cr1,
+                    s,
+                    r,
+                )
+            }
+            Next::Single => {
+                let cr0 = control.words[0];
+                let cr1 = control.words[1];
                 let r = single::unit(
                     storage,
                     &mut control.words,
                     &general.words,
-                    &ones,
                     &kept,
                     s.area,
                     guest,
                     s.clock,
-                    psw,
+                    s.psw,
                     s.timer,
                 );
-                if r.want == special::LAP {
-                    let l = lap::units(storage, &mut general.words, &ones, &kept, psw, s.most);
-                    s = turns::lapped(timed, time, s, l);
-                } else {
-                    if r.want == special::TESTS {
+                match r {
+                    Err(Want::Lap) => {
+                        let l = lap::units(storage, &mut general.words, &kept, s.psw, s.most);
+                        turns::lapped(timed, time, s, l)
+                    }
+                    Err(Want::Tests) => {
                         let x = exceptions::tested(
                             storage,
                             &general.words,
                             &kept,
                             s.area,
                             guest,
-                            psw,
+                            s.psw,
                             s.timer,
                         );
-                        s = turns::passed(
+                        turns::passed(
                             &mut guard,
                             &mut kept,
                             &control.words,
@@ -160,42 +202,9 @@ fn run_streak(
                             cr1,
                             s,
                             x,
-                        );
-                    } else {
-                        s = turns::passed(
-                            &mut guard,
-                            &mut kept,
-                            &control.words,
-                            guest,
-                            requested,
-                            timed,
-                            time,
-                            budget,
-                            cr0,
-                            cr1,
-                            s,
-                            r,
-                        );
+                        )
                     }
-                }
-            } else {
-                if s.want >= turns::DENIED {
-                    let x = denials::unit(
-                        storage,
-                        keys,
-                        &control.words,
-                        &general.words,
-                        &ones,
-                        &kept,
-                        s.area,
-                        designation,
-                        guest,
-                        psw,
-                        s.timer,
-                        s.want % 2 == 1,
-                        s.a,
-                    );
-                    s = turns::passed(
+                    _ => turns::passed(
                         &mut guard,
                         &mut kept,
                         &control.words,
@@ -207,30 +216,14 @@ fn run_streak(
                         cr0,
                         cr1,
                         s,
-                        x,
-                    );
-                } else {
-                    s = keeping::keep_turn(
-                        storage,
-                        keys,
-                        &mut guard[..],
-                        &mut kept,
-                        &control.words,
-                        designation,
-                        guest,
-                        s,
-                    );
+                        r,
+                    ),
                 }
             }
-        }
+        };
     }
-    let psw = Psw {
-        left: s.left,
-        right: s.right,
-        system370: s.system370,
-    };
     Streak {
-        psw,
+        psw: s.psw,
         timer: s.timer,
         clock: s.clock,
         control,
@@ -300,10 +293,7 @@ pub fn paced_streak(
         × (timed ≡ active guest) × (residue < period) × (time ≤ most_time) }
     ensures { (result.units ≤ budget) × Paced designation guest clock time budget start requested residue storage.old keys.now result storage.new }
 {
-    if wait > 0 {
-        return none(start, clock, residue);
-    }
-    if budget == 0 {
+    if wait > 0 || budget == 0 {
         return none(start, clock, residue);
     }
     run_streak(

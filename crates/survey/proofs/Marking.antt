@@ -1,55 +1,50 @@
 -- Laws of Marking: marks that are added, one after the other; what is so of some page from one up to another; what an answer tells.
-use Prim.Native.Nat.{ℕ, zero, suc, ◌+◌, ◌-◌, ◌*◌, ◌/◌, ◌%◌, ◌≤◌, ◌<◌}
-use native.Mathlib.Numerals.{add-one}
+use Prim.Native.Nat.{ℕ, ◌+◌, ◌-◌, ◌*◌, ◌/◌, ◌≤◌, ◌<◌}
 use native.Mathlib.Omega.{arith}
 use mathlib.Core.Path.{◌≡◌, refl, sym, ap, ◌∙◌, subst}
-use mathlib.Core.Bool.{Bool, true, false, cond}
+use mathlib.Core.Bool.{Bool, true, false, cond, ◌&&◌, ◌||◌}
 use mathlib.Core.List.{List}
 use mathlib.Core.Logic.{◌⊎◌, inl, inr, ⊎_elim}
 use borrow.Author.Tests.{ltb-true, ltb-false, lt-ltb, eqb-true, eqb-false}
 use lib.Dec.{eqb, ltb}
 use lib.ListN.{length, get_or, set, length-set}
 use lib.Seq.{get_or-set_same, get_or-set_other}
+use Rattle.std.proofs.lemmas.Bool.{or_cases, or_parts}
+use Rattle.std.proofs.lemmas.List.{set_past}
 use Rattle.machine.specs.Sizes.{frame_bytes, segment_pages}
 use Rattle.machine.specs.Refusals.{frames_of}
 use Rattle.machine.specs.Walk.{frame_of}
-use Rattle.machine.specs.Frames.{page_place, page_of}
-use Rattle.desk.specs.Reach.{page_reached, page_valid}
-use Rattle.desk.proofs.Tables.{both, and_true, never_both, true_or_false, segment_of-reached, reached_of_valid}
-use Rattle.tables.specs.declared.Table.{Table}
-use Rattle.tables.specs.Tabling.{outside, SegmentAt, TableOf, word_valid, word_names, entry_of, index_valid}
-use Rattle.tables.proofs.Pages.{valid_by_table}
-use Rattle.survey.specs.Marking.{Marked, noted, Added, EntryIn, Names, SomePage, Tells, IndexMarked, EntryMarked}
+use Rattle.machine.specs.Frames.{page_place}
+use Rattle.desk.specs.Reach.{page_valid}
+use Rattle.desk.proofs.Tables.{both, never_both, true_or_false, segment_of-reached}
+use Rattle.tables.specs.Tabling.{SegmentThere, SegmentMissed, TableAt, EntriesOf, entry_at, word_valid}
+use Rattle.tables.proofs.Entries.{valid_by_table}
+use Rattle.survey.specs.Marking.{Marked, Added, EntryIn, Names, SomePage, Tells, EntryMarked}
 
 -- marks on frames
 
-pub noted_more : (n : ℕ) (test : ℕ → Bool) (frame : ℕ → ℕ) (marks : List ℕ)
-    → noted (n + 1) test frame marks ≡ cond (test n) (set (noted n test frame marks) (frame n) 1) (noted n test frame marks)
-unfolding noted
-noted_more n test frame marks = rw add-one
-
 -- nothing is added
-pub added_none : (P : ℕ → Type 0) (marks : List ℕ) → ((f : ℕ) → P f → ⊥) → Added P marks marks
+pub added_none : (P : ℕ → Type 0) (marks : List Bool) → ((f : ℕ) → P f → ⊥) → Added P marks marks
 added_none P marks none = record { long = refl; new = λ f h. inl h; kept = λ f h. h; all = λ f h. absurd (none f h) }
 
 -- a mark on one frame
-pub added_one : (marks : List ℕ) (x : ℕ) → x < length marks → Added (λ f. x ≡ f) marks (set marks x 1)
+pub added_one : (marks : List Bool) (x : ℕ) → x < length marks → Added (λ f. x ≡ f) marks (set marks x true)
 added_one marks x fits = record {
-  long = length-set marks x 1;
+  long = length-set marks x true;
   new = λ f h. by_place f (eqb x f) refl h;
-  kept = λ f h. true_or_false _ (eqb x f) (λ e. at_place f (eqb-true x f e)) (λ e. get_or-set_other marks x f 1 0 (λ h. eqb-false x f e (sym h)) ∙ h);
+  kept = λ f h. true_or_false _ (eqb x f) (λ e. at_place f (eqb-true x f e)) (λ e. get_or-set_other marks x f true false (λ h. eqb-false x f e (sym h)) ∙ h);
   all = at_place;
 }
   where
-    at_place : (f : ℕ) → x ≡ f → Marked (set marks x 1) f
-    at_place f e = subst (λ y. get_or (set marks x 1) y 0 ≡ 1) e (get_or-set_same marks x 1 0 fits)
+    at_place : (f : ℕ) → x ≡ f → Marked (set marks x true) f
+    at_place f e = subst (λ y. get_or (set marks x true) y false ≡ true) e (get_or-set_same marks x true false fits)
 
-    by_place : (f : ℕ) (b : Bool) → eqb x f ≡ b → Marked (set marks x 1) f → Marked marks f ⊎ (x ≡ f)
+    by_place : (f : ℕ) (b : Bool) → eqb x f ≡ b → Marked (set marks x true) f → Marked marks f ⊎ (x ≡ f)
     by_place f true e h = inr (eqb-true x f e)
-    by_place f false e h = inl (sym (get_or-set_other marks x f 1 0 (λ q. eqb-false x f e (sym q))) ∙ h)
+    by_place f false e h = inl (sym (get_or-set_other marks x f true false (λ q. eqb-false x f e (sym q))) ∙ h)
 
 -- marks added to marks that were added
-pub added_along : (P Q R : ℕ → Type 0) (a b c : List ℕ) → Added P a b → Added Q b c → ((f : ℕ) → P f → R f) → ((f : ℕ) → Q f → R f)
+pub added_along : (P Q R : ℕ → Type 0) (a b c : List Bool) → Added P a b → Added Q b c → ((f : ℕ) → P f → R f) → ((f : ℕ) → Q f → R f)
     → ((f : ℕ) → R f → P f ⊎ Q f) → Added R a c
 added_along P Q R a b c first second left right either = record {
   long = second.long ∙ first.long;
@@ -59,7 +54,7 @@ added_along P Q R a b c first second left right either = record {
 }
 
 -- the same marks by another name
-pub added_same : (P Q : ℕ → Type 0) (a b : List ℕ) → Added P a b → ((f : ℕ) → P f → Q f) → ((f : ℕ) → Q f → P f) → Added Q a b
+pub added_same : (P Q : ℕ → Type 0) (a b : List Bool) → Added P a b → ((f : ℕ) → P f → Q f) → ((f : ℕ) → Q f → P f) → Added Q a b
 added_same P Q a b added to back = record {
   long = added.long;
   new = λ f h. ⊎_elim (λ k. inl k) (λ p. inr (to f p)) (added.new f h);
@@ -67,36 +62,50 @@ added_same P Q a b added to back = record {
   all = λ f q. added.all f (back f q);
 }
 
--- one of `n` numbers passes a test and names a frame
-pub record Noted (n : ℕ) (test : ℕ → Bool) (frame : ℕ → ℕ) (f : ℕ) : Type 0 where
+-- one of the first `n` entries says a valid page with a frame of `frames`
+pub record Noted (n frames : ℕ) (entries : List (List ℕ)) (f : ℕ) : Type 0 where
   pub number : ℕ
   pub low : number < n
-  pub passes : test number ≡ true
-  pub is : frame number ≡ f
+  pub passes : word_valid (entry_at entries number) ≡ true
+  pub is : frame_of (entry_at entries number) ≡ f
+  pub fits : f < frames
 
-pub added-noted : (n : ℕ) (test : ℕ → Bool) (frame : ℕ → ℕ) (marks : List ℕ) → ((k : ℕ) → k < n → test k ≡ true → frame k < length marks)
-    → Added (Noted n test frame) marks (noted n test frame marks)
-unfolding noted
-added-noted zero test frame marks fits = added_none _ marks λ f h. omega (arith, h.low)
-added-noted (suc n) test frame marks fits =
-    let earlier = added-noted n test frame marks (λ k h. fits k (omega arith)) in
-    true_or_false _ (test n)
-    (λ e. rw e
-    (added_along _ _ _ _ _ _ earlier (added_one (noted n test frame marks) (frame n) (rw earlier.long (fits n (omega arith) e)))
-    (λ f h. record { number = h.number; low = omega (arith, h.low); passes = h.passes; is = h.is })
-    (λ f h. record { number = n; low = omega arith; passes = e; is = h })
-    (λ f h. true_or_false _ (eqb h.number n)
-    (λ q. inr (ap frame (sym (eqb-true h.number n q)) ∙ h.is))
-    (λ q. let other : h.number ≡ n → ⊥ = eqb-false h.number n q in inl (record { number = h.number; low = omega (arith, h.low, other); passes = h.passes; is = h.is })))))
-    (λ e. rw e
-    (added_same _ _ _ _ earlier
-    (λ f h. record { number = h.number; low = omega (arith, h.low); passes = h.passes; is = h.is })
-    (λ f h. record {
-      number = h.number;
-      low = let other : h.number ≡ n → ⊥ = λ q. never_both h.passes (ap test q ∙ e) in omega (arith, h.low, other);
-      passes = h.passes;
-      is = h.is;
-    })))
+pub noted_none : (frames : ℕ) (entries : List (List ℕ)) (marks : List Bool) → Added (Noted 0 frames entries) marks marks
+noted_none frames entries marks = added_none _ marks λ f h. omega (arith, h.low)
+
+-- one entry more
+module _ (n frames : ℕ) (entries : List (List ℕ)) (a b : List Bool) (long : length b ≡ frames) (earlier : Added (Noted n frames entries) a b) where
+  abbrev entry : ℕ
+  entry = entry_at entries n
+
+  before : (f : ℕ) → Noted n frames entries f → Noted (n + 1) frames entries f
+  before f h = record { number = h.number; low = omega (arith, h.low); passes = h.passes; is = h.is; fits = h.fits }
+
+  -- that names no frame to mark
+  nothing_more : (word_valid entry ≡ true → frames ≤ frame_of entry) → Added (Noted (n + 1) frames entries) a b
+  nothing_more none = added_same _ _ a b earlier before λ f h.
+      let other : h.number ≡ n → ⊥ = λ e.
+      let valid = ap (λ k. word_valid (entry_at entries k)) (sym e) ∙ h.passes in
+      let is : frame_of entry ≡ f = ap (λ k. frame_of (entry_at entries k)) (sym e) ∙ h.is in
+      omega (arith, none valid, h.fits) in
+      record { number = h.number; low = omega (arith, h.low, other); passes = h.passes; is = h.is; fits = h.fits }
+
+  one_frame_more : word_valid entry ≡ true → frame_of entry < frames → Added (Noted (n + 1) frames entries) a (set b (frame_of entry) true)
+  one_frame_more valid low =
+      added_along _ _ _ a b _ earlier (added_one b (frame_of entry) (omega arith)) before
+      (λ f e. record { number = n; low = omega arith; passes = valid; is = e; fits = omega arith })
+      (λ f h. true_or_false _ (eqb h.number n)
+      (λ e. inr (ap (λ k. frame_of (entry_at entries k)) (sym (eqb-true h.number n e)) ∙ h.is))
+      (λ e. let other : h.number ≡ n → ⊥ = eqb-false h.number n e in inl (record { number = h.number; low = omega (arith, h.low, other); passes = h.passes; is = h.is; fits = h.fits })))
+
+  pub noted_more : Added (Noted (n + 1) frames entries) a (cond (word_valid entry) (set b (frame_of entry) true) b)
+  noted_more = true_or_false _ (word_valid entry)
+      (λ valid. true_or_false _ (ltb (frame_of entry) frames)
+      (λ e. rw valid (one_frame_more valid (ltb-true _ _ e)))
+      (λ e.
+      let past : frames ≤ frame_of entry = ltb-false _ _ e in
+      rw (valid, set_past b (frame_of entry) true (omega arith)) (nothing_more λ _. past)))
+      (λ valid. rw valid (nothing_more λ h. never_both h valid))
 
 -- what is so of some page
 
@@ -116,170 +125,142 @@ pub some-nowhere : (P : ℕ → ℕ → Type 0) (from x : ℕ) → SomePage P fr
 some-nowhere P from x some = omega (arith, some.low, some.high)
 
 -- marks of the pages from one up to another, and on
-pub added_pages : (P : ℕ → ℕ → Type 0) (from mid to : ℕ) (a b c : List ℕ) → from ≤ mid → mid ≤ to → Added (SomePage P from mid) a b
+pub added_pages : (P : ℕ → ℕ → Type 0) (from mid to : ℕ) (a b c : List Bool) → from ≤ mid → mid ≤ to → Added (SomePage P from mid) a b
     → Added (SomePage P mid to) b c → Added (SomePage P from to) a c
 added_pages P from mid to a b c low high first second =
     added_along _ _ _ a b c first second (λ f. some_left P from mid to f high) (λ f. some_right P from mid to f low) (λ f. some_either P from mid to f)
 
--- the pages from one up to another, of one segment, by its entry and its table; the first `m` of `n` have their entries in reach
-module _ (d : ℕ) (s : List ℕ) (page next : ℕ) (t : Table) (one : next ≤ page / segment_pages * segment_pages + segment_pages)
-    (told : TableOf d s (page / segment_pages) t) (n m : ℕ) (is : page + n ≡ next) (few : m ≤ n)
-    (reach : (k : ℕ) → k < n → ltb (page % segment_pages + k) t.limit ≡ ltb k m) where
-  own : (k : ℕ) → k < n → (page + k) / segment_pages ≡ page / segment_pages
-  own k h = omega arith
+-- the pages of a span, by their entries
+module _ (d : ℕ) (s : List ℕ) (from to : ℕ) (entries : List (List ℕ)) (told : EntriesOf d s from to entries) where
+  -- every page is at some distance from the first
+  distance : (q : ℕ) → from ≤ q → q < to → (k : ℕ) × ((from + k < to) × (from + k ≡ q))
+  distance q low high = (q - from, (omega arith, omega arith))
 
-  index : (k : ℕ) → k < n → (page + k) % segment_pages ≡ page % segment_pages + k
-  index k h = omega arith
-
-  -- the first `m` pages are in reach, and no other
-  reached_by_table : (k : ℕ) → k < n → page_reached d s (page + k) ≡ ltb k m
-  reached_by_table k h = told.reach (page + k) (own k h) ∙ rw (index k h) (reach k h)
-
-  place_by_table : (k : ℕ) → k < m → page_place d s (page + k) ≡ t.base + (page % segment_pages + k) * 4
-  place_by_table k h =
-      let low : k < n = omega arith in
-      told.place (page + k) (own k low) (rw (index k low) (ltb-true _ _ (reach k low ∙ lt-ltb k m h))) ∙ rw (index k low)
-
-  -- every page from one up to another is at some distance from the first
-  distance : (q : ℕ) → page ≤ q → q < next → (k : ℕ) × ((k < n) × (page + k ≡ q))
-  distance q low high = (q - page, (omega arith, omega arith))
-
-  valid_by_word : (k : ℕ) → k < m → page_valid d s (page + k) ≡ word_valid (entry_of s t (page % segment_pages + k))
-  unfolding index_valid
-  valid_by_word k h =
-      let low : k < n = omega arith in
-      valid_by_table d s (page / segment_pages) t told (page + k) (own k low)
-      ∙ rw (index k low, reach k low, lt-ltb k m h)
-
-  entry_by_word : (k : ℕ) → k < m → page_of d s (page + k) ≡ entry_of s t (page % segment_pages + k)
-  entry_by_word k h = rw (place_by_table k h)
-
-  -- marks by copies of the entries in reach
-  pub marks_of_names : (copies marks : List ℕ) → length s ≤ 16777216 → length marks ≡ 4096
-      → ((k : ℕ) → k < m → get_or copies k 0 ≡ entry_of s t (page % segment_pages + k))
-      → Added (SomePage (Names d s) page next) marks (noted m (λ k. word_names (frames_of s) (get_or copies k 0)) (λ k. frame_of (get_or copies k 0)) marks)
-  unfolding word_names
-  marks_of_names copies marks small long same =
-      added_same named _ _ _ (added-noted m _ _ marks (λ k h q. omega (arith, in_storage_lem k q)))
-      (λ f h. record {
-        page = page + h.number;
+  pub marks_of_names : (earlier later : List Bool) → Added (Noted (length entries) (frames_of s) entries) earlier later
+      → Added (SomePage (Names d s) from to) earlier later
+  marks_of_names earlier later added =
+      added_same _ _ earlier later added
+      (λ f h.
+      let own : from + h.number < to = omega (arith, h.low, told.few) in
+      record {
+        page = from + h.number;
         low = omega arith;
-        high = omega (arith, h.low);
+        high = own;
         is = (
-          valid_by_word h.number h.low ∙ ap word_valid (sym (same h.number h.low)) ∙ (both _ _ h.passes).0,
-          (ap frame_of (entry_by_word h.number h.low ∙ sym (same h.number h.low)) ∙ h.is, subst (λ x. x < frames_of s) h.is (in_storage_lem h.number h.passes)),
+          valid_by_table d s from to entries told h.number own ∙ rw (lt-ltb h.number (length entries) h.low) h.passes,
+          (ap frame_of (told.is h.number h.low) ∙ h.is, h.fits),
         );
       })
       (λ f h.
       let (k, found) = distance h.page h.low h.high in
-      let valid : page_valid d s (page + k) ≡ true = rw found.1 h.is.0 in
-      let low : k < m = ltb-true k m (sym (reached_by_table k found.0) ∙ reached_of_valid d s (page + k) valid) in
-      let word = entry_by_word k low ∙ sym (same k low) in
-      let names : frame_of (get_or copies k 0) ≡ f = ap frame_of (sym word) ∙ rw found.1 h.is.1.0 in
+      let valid : page_valid d s (from + k) ≡ true = rw found.1 h.is.0 in
+      let tests = both (ltb k (length entries)) _ (sym (valid_by_table d s from to entries told k found.0) ∙ valid) in
+      let low : k < length entries = ltb-true k (length entries) tests.0 in
       record {
         number = k;
         low = low;
-        passes = and_true (ap word_valid (same k low) ∙ sym (valid_by_word k low) ∙ valid) (rw names (lt-ltb f (frames_of s) h.is.1.1));
-        is = names;
+        passes = tests.1;
+        is = ap frame_of (sym (told.is k low)) ∙ rw found.1 h.is.1.0;
+        fits = h.is.1.1;
       })
-    where
-      named : ℕ → Type 0
-      named = Noted m (λ k. word_names (frames_of s) (get_or copies k 0)) (λ k. frame_of (get_or copies k 0))
-
-      in_storage_lem : (k : ℕ) → word_names (frames_of s) (get_or copies k 0) ≡ true → frame_of (get_or copies k 0) < frames_of s
-      in_storage_lem k e = ltb-true _ _ (both (word_valid (get_or copies k 0)) (ltb (frame_of (get_or copies k 0)) (frames_of s)) e).1
-
-  -- entries in marked frames
-  module _ (at : ℕ) (some : page < next) (segment : SegmentAt d s (page / segment_pages) at) (marks : List ℕ) where
-    same_segment : {f : ℕ} (h : SomePage (EntryIn d s) page next f) → h.page / segment_pages ≡ page / segment_pages
-    same_segment h = omega (arith, h.low, h.high)
-
-    pub marked-table : IndexMarked t (page % segment_pages) m marks → EntryMarked d s page next marks
-    marked-table h = record {
-      frame = (t.base + (page % segment_pages + h.number) * 4) / frame_bytes;
-      entry = record {
-        page = page + h.number;
-        low = omega arith;
-        high = omega (arith, h.low);
-        is = inr (
-          reached_by_table h.number (omega (arith, h.low)) ∙ lt-ltb h.number m h.low,
-          ap (λ x. x / frame_bytes) (place_by_table h.number h.low),
-        );
-      };
-      marked = h.marked;
-    }
-
-    pub marked-entry : at < outside → EntryMarked d s page next marks → Marked marks (at / frame_bytes) ⊎ IndexMarked t (page % segment_pages) m marks
-    marked-entry low h = ⊎_elim
-        (λ w. inl (subst (Marked marks) (sym w.1 ∙ ap (λ x. x / frame_bytes) (segment.place h.entry.page (same_segment h.entry) low)) h.marked))
-        (λ w. inr (by_table w))
-        h.entry.is
-      where
-        by_table : (page_reached d s h.entry.page ≡ true) × (page_place d s h.entry.page / frame_bytes ≡ h.frame) → IndexMarked t (page % segment_pages) m marks
-        by_table w =
-            let (k, found) = distance h.entry.page h.entry.low h.entry.high in
-            let near : k < m = ltb-true k m (sym (reached_by_table k found.0) ∙ rw found.1 w.0) in
-            record {
-              number = k;
-              low = near;
-              marked = subst (Marked marks) (sym w.1 ∙ ap (λ q. page_place d s q / frame_bytes) (sym found.1) ∙ ap (λ x. x / frame_bytes) (place_by_table k near)) h.marked;
-            }
-
--- a segment entry in a marked frame
-pub marked-segment : (d : ℕ) (s : List ℕ) (page next at : ℕ) (marks : List ℕ) → page < next → SegmentAt d s (page / segment_pages) at → at < outside
-    → Marked marks (at / frame_bytes) → EntryMarked d s page next marks
-marked-segment d s page next at marks some segment low h = record {
-  frame = at / frame_bytes;
-  entry = record { page = page; low = omega arith; high = some; is = inl (segment.reached page refl low, ap (λ x. x / frame_bytes) (segment.place page refl low)) };
-  marked = h;
-}
 
 -- no entry of a segment whose own entry is out of reach
-pub none_marked : (d : ℕ) (s : List ℕ) (page next at : ℕ) (marks : List ℕ) → next ≤ page / segment_pages * segment_pages + segment_pages
-    → SegmentAt d s (page / segment_pages) at → outside ≤ at → EntryMarked d s page next marks → ⊥
-none_marked d s page next at marks one segment past h =
-    let missed = segment.missed h.entry.page (omega (arith, h.entry.low, h.entry.high)) past in
+pub none_marked : (d : ℕ) (s : List ℕ) (from to : ℕ) (marks : List Bool) → to ≤ from / segment_pages * segment_pages + segment_pages
+    → SegmentMissed d s (from / segment_pages) → EntryMarked d s from to marks → ⊥
+none_marked d s from to marks one segment h =
+    let missed = segment.missed h.entry.page (omega (arith, h.entry.low, h.entry.high)) in
     ⊎_elim (λ w. never_both w.0 missed) (λ w. never_both (segment_of-reached d s h.entry.page w.0) missed) h.entry.is
+
+-- the entries of a span, where its segment entry and its page entries stand
+module _ (d : ℕ) (s : List ℕ) (from to at start end : ℕ) (some : from < to) (one : to ≤ from / segment_pages * segment_pages + segment_pages)
+    (segment : SegmentThere d s (from / segment_pages) at) (table : TableAt d s from to start end) (marks : List Bool) where
+  pub marked-segment : Marked marks (at / frame_bytes) → EntryMarked d s from to marks
+  marked-segment h = record {
+    frame = at / frame_bytes;
+    entry = record { page = from; low = omega arith; high = some; is = inl (segment.reached from refl, ap (λ x. x / frame_bytes) (segment.place from refl)) };
+    marked = h;
+  }
+
+  -- a page entry, by its distance from the first
+  page-marked : (k : ℕ) → k < table.count → Marked marks ((start + k * 4) / frame_bytes) → EntryMarked d s from to marks
+  page-marked k low h = record {
+    frame = (start + k * 4) / frame_bytes;
+    entry = record {
+      page = from + k;
+      low = omega arith;
+      high = omega (arith, table.few);
+      is = inr (table.reach k (omega (arith, table.few)) ∙ lt-ltb k table.count low, ap (λ x. x / frame_bytes) (table.place k low));
+    };
+    marked = h;
+  }
+
+  -- they lie where the first and the last of them lie
+  first_or_last : (k : ℕ) → k < table.count → Marked marks ((start + k * 4) / frame_bytes) → Marked marks (start / frame_bytes) ⊎ Marked marks ((end - 4) / frame_bytes)
+  first_or_last k low h =
+      let at = (start + k * 4) / frame_bytes in
+      true_or_false _ (eqb at (start / frame_bytes))
+      (λ e. inl (subst (Marked marks) (eqb-true at _ e) h))
+      (λ e.
+      let other : at ≡ start / frame_bytes → ⊥ = eqb-false at _ e in
+      let last : at ≡ (end - 4) / frame_bytes = omega (arith, other, table.whole, table.few) in
+      inr (subst (Marked marks) last h))
+
+  pub marked_first : start < end → Marked marks (start / frame_bytes) → EntryMarked d s from to marks
+  marked_first full h =
+      let same : start / frame_bytes ≡ (start + 0 * 4) / frame_bytes = omega arith in
+      page-marked 0 (omega (arith, table.whole)) (subst (Marked marks) same h)
+
+  pub marked_last : start < end → Marked marks ((end - 4) / frame_bytes) → EntryMarked d s from to marks
+  marked_last full h =
+      let same : (end - 4) / frame_bytes ≡ (start + (table.count - 1) * 4) / frame_bytes = omega (arith, table.whole) in
+      page-marked (table.count - 1) (omega (arith, table.whole)) (subst (Marked marks) same h)
+
+  pub marked-entry : EntryMarked d s from to marks
+      → Marked marks (at / frame_bytes) ⊎ ((start < end) × (Marked marks (start / frame_bytes) ⊎ Marked marks ((end - 4) / frame_bytes)))
+  marked-entry h =
+      let own : h.entry.page / segment_pages ≡ from / segment_pages = omega (arith, h.entry.low, h.entry.high) in
+      ⊎_elim
+      (λ w. inl (subst (Marked marks) (sym w.1 ∙ ap (λ x. x / frame_bytes) (segment.place h.entry.page own)) h.marked))
+      (λ w.
+      let k = h.entry.page - from in
+      let is : from + k ≡ h.entry.page = omega (arith, h.entry.low) in
+      let inside : from + k < to = omega (arith, is, h.entry.high) in
+      let low : k < table.count = ltb-true k table.count (sym (table.reach k inside) ∙ rw is w.0) in
+      let place : page_place d s h.entry.page ≡ start + k * 4 = rw is at (table.place k low) in
+      inr (omega (arith, low, table.whole), first_or_last k low (subst (Marked marks) (sym w.1 ∙ ap (λ x. x / frame_bytes) place) h.marked)))
+      h.entry.is
+
+  -- so these tests tell
+  pub tells_by_tests : Tells (EntryMarked d s from to marks)
+      (get_or marks (at / frame_bytes) false || (ltb start end && (get_or marks (start / frame_bytes) false || get_or marks ((end - 4) / frame_bytes) false)))
+  tells_by_tests = record {
+    so = λ e. ⊎_elim marked-segment
+        (λ h.
+        let (full, either) = both (ltb start end) _ h in
+        ⊎_elim (marked_first (ltb-true start end full)) (marked_last (ltb-true start end full)) (or_cases (get_or marks (start / frame_bytes) false) _ either))
+        (or_cases (get_or marks (at / frame_bytes) false) _ e);
+    never = λ e h.
+        let (own, pages) = or_parts (get_or marks (at / frame_bytes) false) _ e in
+        ⊎_elim (λ m. never_both m own)
+        (λ (full, either).
+        let (first, last) = or_parts (get_or marks (start / frame_bytes) false) _ (rw (lt-ltb start end full) at pages) in
+        ⊎_elim (λ m. never_both m first) (λ m. never_both m last) either)
+        (marked-entry h);
+  }
 
 -- from one page up to another, and on
 
-pub marked_left : (d : ℕ) (s : List ℕ) (from mid to : ℕ) (marks : List ℕ) → mid ≤ to → EntryMarked d s from mid marks → EntryMarked d s from to marks
+pub marked_left : (d : ℕ) (s : List ℕ) (from mid to : ℕ) (marks : List Bool) → mid ≤ to → EntryMarked d s from mid marks → EntryMarked d s from to marks
 marked_left d s from mid to marks h m = record { frame = m.frame; entry = some_left (EntryIn d s) from mid to m.frame h m.entry; marked = m.marked }
 
-pub marked_right : (d : ℕ) (s : List ℕ) (from mid to : ℕ) (marks : List ℕ) → from ≤ mid → EntryMarked d s mid to marks → EntryMarked d s from to marks
+pub marked_right : (d : ℕ) (s : List ℕ) (from mid to : ℕ) (marks : List Bool) → from ≤ mid → EntryMarked d s mid to marks → EntryMarked d s from to marks
 marked_right d s from mid to marks h m = record { frame = m.frame; entry = some_right (EntryIn d s) from mid to m.frame h m.entry; marked = m.marked }
 
-pub marked_either : (d : ℕ) (s : List ℕ) (from mid to : ℕ) (marks : List ℕ) → EntryMarked d s from to marks
+pub marked_either : (d : ℕ) (s : List ℕ) (from mid to : ℕ) (marks : List Bool) → EntryMarked d s from to marks
     → EntryMarked d s from mid marks ⊎ EntryMarked d s mid to marks
 marked_either d s from mid to marks m =
     ⊎_elim (λ e. inl (record { frame = m.frame; entry = e; marked = m.marked })) (λ e. inr (record { frame = m.frame; entry = e; marked = m.marked }))
     (some_either (EntryIn d s) from mid to m.frame m.entry)
-
-pub marked-nowhere : (d : ℕ) (s : List ℕ) (from : ℕ) (marks : List ℕ) → EntryMarked d s from from marks → ⊥
-marked-nowhere d s from marks m = some-nowhere (EntryIn d s) from m.frame m.entry
-
--- the first and the last of so many entries of a table lie where all of them lie
-
-pub first_or_last : (t : Table) (from count : ℕ) (marks : List ℕ) → 0 < count → count ≤ segment_pages → IndexMarked t from count marks
-    → Marked marks ((t.base + from * 4) / frame_bytes) ⊎ Marked marks ((t.base + from * 4 + (count - 1) * 4) / frame_bytes)
-first_or_last t from count marks full few h =
-    let at = (t.base + (from + h.number) * 4) / frame_bytes in
-    true_or_false _ (eqb at ((t.base + from * 4) / frame_bytes))
-    (λ e. inl (subst (Marked marks) (eqb-true at _ e) h.marked))
-    (λ e.
-    let other : at ≡ (t.base + from * 4) / frame_bytes → ⊥ = eqb-false at _ e in
-    let last : at ≡ (t.base + from * 4 + (count - 1) * 4) / frame_bytes = omega (arith, h.low, other) in
-    inr (subst (Marked marks) last h.marked))
-
-pub first_marked : (t : Table) (from count : ℕ) (marks : List ℕ) → 0 < count → Marked marks ((t.base + from * 4) / frame_bytes) → IndexMarked t from count marks
-first_marked t from count marks full h =
-    let same : (t.base + from * 4) / frame_bytes ≡ (t.base + (from + 0) * 4) / frame_bytes = omega arith in
-    record { number = 0; low = full; marked = subst (Marked marks) same h }
-
-pub last_marked : (t : Table) (from count : ℕ) (marks : List ℕ) → 0 < count → Marked marks ((t.base + from * 4 + (count - 1) * 4) / frame_bytes) → IndexMarked t from count marks
-last_marked t from count marks full h =
-    let same : (t.base + from * 4 + (count - 1) * 4) / frame_bytes ≡ (t.base + (from + (count - 1)) * 4) / frame_bytes = omega arith in
-    record { number = count - 1; low = omega arith; marked = subst (Marked marks) same h }
 
 -- an answer
 pub tells_yes : {P : Type 0} → P → Tells P true
@@ -287,3 +268,7 @@ tells_yes h = record { so = λ _. h; never = λ e. never_both refl e }
 
 pub tells_no : {P : Type 0} → (P → ⊥) → Tells P false
 tells_no h = record { so = λ e. never_both e refl; never = λ _. h }
+
+-- the same answer by other tests
+pub tells_as : {P : Type 0} {a b : Bool} → a ≡ b → Tells P a → Tells P b
+tells_as {P} e t = subst (Tells P) e t

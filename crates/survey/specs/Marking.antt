@@ -1,22 +1,16 @@
--- Marks on frames, a byte each: one where a frame is marked.
-use Rattle.std.specs.Prelude.{ℕ, zero, suc, ◌+◌, ◌*◌, ◌/◌, ◌≤◌, ◌<◌, ◌≡◌, Bool, true, false, cond, List, ◌⊎◌, length, get_or, set}
+-- Marks on frames, a truth each.
+use Rattle.std.specs.Prelude.{ℕ, ◌/◌, ◌≤◌, ◌<◌, ◌≡◌, Bool, true, false, List, ◌⊎◌, length, get_or}
 use Rattle.machine.specs.Sizes.{frame_bytes}
 use Rattle.machine.specs.Refusals.{frames_of}
 use Rattle.machine.specs.Walk.{frame_of}
 use Rattle.machine.specs.Frames.{segment_place, page_place, page_of}
 use Rattle.desk.specs.Reach.{segment_reached, page_reached, page_valid}
-use Rattle.tables.specs.declared.Table.{Table}
 
-abbrev pub Marked : List ℕ → ℕ → Type 0
-Marked marks f = get_or marks f 0 ≡ 1
-
--- marks with one more for each of the `n` first numbers that pass a test
-unfoldable pub noted : ℕ → (ℕ → Bool) → (ℕ → ℕ) → List ℕ → List ℕ
-noted zero test frame marks = marks
-noted (suc n) test frame marks = cond (test n) (set (noted n test frame marks) (frame n) 1) (noted n test frame marks)
+abbrev pub Marked : List Bool → ℕ → Type 0
+Marked marks f = get_or marks f false ≡ true
 
 -- the later marks are the earlier ones and those of the frames P
-pub record Added (P : ℕ → Type 0) (earlier later : List ℕ) : Type 0 where
+pub record Added (P : ℕ → Type 0) (earlier later : List Bool) : Type 0 where
   pub long : length later ≡ length earlier
   pub new : (f : ℕ) → Marked later f → Marked earlier f ⊎ P f
   pub kept : (f : ℕ) → Marked earlier f → Marked later f
@@ -44,14 +38,8 @@ pub record Tells (P : Type 0) (answer : Bool) : Type 0 where
   pub so : answer ≡ true → P
   pub never : answer ≡ false → P → ⊥
 
--- one of `count` indexes of a table, from one on, has its entry in a marked frame
-pub record IndexMarked (t : Table) (from count : ℕ) (marks : List ℕ) : Type 0 where
-  pub number : ℕ
-  pub low : number < count
-  pub marked : Marked marks ((t.base + (from + number) * 4) / frame_bytes)
-
 -- an entry of some host page from `from` up to `to`, in reach, lies in a marked frame
-pub record EntryMarked (d : ℕ) (s : List ℕ) (from to : ℕ) (marks : List ℕ) : Type 0 where
+pub record EntryMarked (d : ℕ) (s : List ℕ) (from to : ℕ) (marks : List Bool) : Type 0 where
   pub frame : ℕ
   pub entry : SomePage (EntryIn d s) from to frame
   pub marked : Marked marks frame

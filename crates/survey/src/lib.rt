@@ -1,150 +1,79 @@
 // The marks on the frames that valid pages name, and whether an entry lies in a marked frame, a segment at a time. A segment entry is
-// read once for its pages, which go by the table that it names. Each contract goes by the tests of desk's Reach and Extent.
+// read once for its pages, and a page entry once. Each contract goes by the tests of desk's Reach and Extent.
 #![tactic(auto)]
 
-ghost use Rattle.std.specs.Prelude.{◌≡◌, cond, ℕ, ◌+◌, ◌*◌, ◌/◌, ◌≤◌, ◌<◌, ltb, length, get_or, set};
+ghost use Rattle.std.specs.Prelude.{◌≡◌, ◌/◌, cond, true, false, length, get_or, set};
+ghost use Rattle.machine.specs.Refusals.{frames_of};
+ghost use Rattle.machine.specs.Sizes.{frame_bytes};
 ghost use Rattle.machine.specs.Walk.{frame_of};
-ghost use Rattle.tables.specs.Tabling.{word_names};
-ghost use Rattle.survey.specs.Marking.{noted, Added, Names, SomePage, Tells, IndexMarked, EntryMarked};
+ghost use Rattle.tables.specs.Tabling.{word_valid};
+ghost use Rattle.survey.specs.Marking.{Added, Names, SomePage, Tells, EntryMarked};
 
-use tables::Table;
-
-// Numbers from here on say that an entry is out of reach.
-const OUTSIDE: u64 = 4294967296;
+use tables::{Host, Pages, Span};
 
 const FRAME: usize = 4096;
 
-// Marks a frame, where it is one of so many.
-pub fn mark_frame(frame: u32, frames: usize, names: &mut [u8; 4096])
-    requires { frames ≤ 4096 }
-    ensures { names.new ≡ cond (ltb frame frames) (set names.old frame 1) names.old }
+// Marks a frame, if it is one of those with marks.
+pub fn mark_frame(frame: usize, marks: &mut [bool])
+    ensures { marks.new ≡ set marks.old frame true }
 {
-    if (frame as usize) < frames {
-        names[frame as usize] = 1;
+    if frame < marks.len() {
+        marks[frame] = true;
     }
 }
 
-// Marks the frame of a valid page, by its entry, where it is one of so many.
-fn mark_named(entry: u32, frames: usize, names: &mut [u8; 4096])
-    requires { frames ≤ 4096 }
-    ensures { names.new ≡ cond (word_names frames entry) (set names.old (frame_of entry) 1) names.old }
+// Marks the frame that a valid page names, by its entry.
+fn mark_named(entry: u32, marks: &mut [bool])
+    ensures { marks.new ≡ cond (word_valid entry) (set marks.old (frame_of entry) true) marks.old }
 {
-    if !tables::says_valid(entry) {
-        return;
-    }
-    mark_frame(entry / 4096 % 524288, frames, names);
-}
-
-// So for the first entries of a copy.
-fn mark_entries(entries: &[u32], count: u32, frames: usize, names: &mut [u8; 4096])
-    requires { (count ≤ length entries.now) × (frames ≤ 4096) }
-    ensures { names.new ≡ noted count (λ k. word_names frames (get_or entries.now k 0)) (λ k. frame_of (get_or entries.now k 0)) names.old }
-{
-    let mut k = 0;
-    while k < count {
-        mark_named(entries[k as usize], frames, names);
-        k += 1;
+    if tables::says_valid(entry) {
+        mark_frame((entry / 4096 % 524288) as usize, marks);
     }
 }
 
-// Marks the frames of the storage that valid host pages name, from one page up to another of one segment. Their entries are
-// copied first.
-fn mark_segment(
-    storage: &[u8],
-    designation: u32,
-    page: u32,
-    next: u32,
-    entries: &mut [u32],
-    names: &mut [u8; 4096],
-)
-    requires { ((page < next) × ((next ≤ page / 256 * 256 + 256) × (next ≤ 524288))) × ((length storage.now ≤ 16777216) × ((256 ≤ length entries.old) × (length names.old ≡ 4096))) }
-    ensures { Added (SomePage (Names designation storage.now) page next) names.old names.new }
+// Marks the frames of the storage that valid pages of a span name.
+fn mark_span(host: Host, span: Span, marks: &mut [bool])
+    requires { length marks.old ≡ frames_of host.storage.now }
+    ensures { Added (SomePage (Names host.entry.designation host.entry.storage.now) span.from span.to) marks.old marks.new }
 {
-    let t = tables::table_at(
-        storage,
-        tables::segment_at(storage, designation, page / 256),
-    );
-    let reach = tables::reach_from(t, page % 256, next - page);
-    listings::copy_entries(storage, t, page % 256, reach, entries, 0);
-    mark_entries(entries, reach, storage.len() / FRAME, names);
-}
-
-// So for the host pages from one up to another.
-pub fn mark_pages(
-    storage: &[u8],
-    designation: u32,
-    from: u32,
-    to: u32,
-    entries: &mut [u32],
-    names: &mut [u8; 4096],
-)
-    requires { ((from ≤ to) × (to ≤ 524288)) × ((length storage.now ≤ 16777216) × ((256 ≤ length entries.old) × (length names.old ≡ 4096))) }
-    ensures { Added (SomePage (Names designation storage.now) from to) names.old names.new }
-{
-    let mut page = from;
-    while page < to {
-        let next = tables::segment_end(page, to);
-        mark_segment(storage, designation, page, next, entries, names);
-        page = next;
+    for entry in host.entries_of(span) {
+        mark_named(u32::from_be_bytes(*entry), marks);
     }
 }
 
-// Whether one of so many entries of a table, from an index on and in reach, lies in a marked frame: the first and the last tell.
-fn table_marked(t: Table, from: u32, count: u32, names: &[u8; 4096]) -> bool
-    requires { (((k : ℕ) → k < count → from + k < t.limit) × (from + count ≤ 256)) × ((i : ℕ) → i < t.limit → t.base + i * 4 + 4 ≤ 16777216) }
-    ensures { Tells (IndexMarked t from count names.now) result }
+// So for host pages.
+pub fn mark_pages(host: Host, pages: Pages, marks: &mut [bool])
+    requires { length marks.old ≡ frames_of host.storage.now }
+    ensures { Added (SomePage (Names host.entry.designation host.entry.storage.now) pages.from pages.to) marks.old marks.new }
 {
-    if count == 0 {
+    for span in pages.spans() {
+        mark_span(host, span, marks);
+    }
+}
+
+// Whether the frame of a place is marked.
+fn marked(marks: &[bool], place: usize) -> bool
+    ensures { result ≡ get_or marks.now (place / frame_bytes) false }
+{
+    marks.get(place / FRAME).copied().unwrap_or(false)
+}
+
+// Whether an entry of a span, in reach, lies in a marked frame: its segment's, or one of its pages', of which the first and the last
+// tell.
+fn span_marked(host: Host, span: Span, marks: &[bool]) -> bool
+    ensures { Tells (EntryMarked host.entry.designation host.entry.storage.now span.from span.to marks.now) result }
+{
+    let Some(at) = host.segment_at(span.segment()) else {
         return false;
-    }
-    let first = t.base as usize + from as usize * 4;
-    if names[first / FRAME] == 1 {
-        return true;
-    }
-    names[(first + (count as usize - 1) * 4) / FRAME] == 1
+    };
+    let table = host.table_at(at, span);
+    marked(marks, at)
+        || !table.is_empty() && (marked(marks, table.start) || marked(marks, table.end - 4))
 }
 
-// Whether an entry of the host pages from one up to another of one segment, in reach, lies in a marked frame.
-fn segment_marked(
-    storage: &[u8],
-    designation: u32,
-    page: u32,
-    next: u32,
-    names: &[u8; 4096],
-) -> bool
-    requires { ((page < next) × ((next ≤ page / 256 * 256 + 256) × (next ≤ 524288))) × (length storage.now ≤ 16777216) }
-    ensures { Tells (EntryMarked designation storage.now page next names.now) result }
+// So for host pages.
+pub fn entries_marked(host: Host, pages: Pages, marks: &[bool]) -> bool
+    ensures { Tells (EntryMarked host.entry.designation host.entry.storage.now pages.from pages.to marks.now) result }
 {
-    let at = tables::segment_at(storage, designation, page / 256);
-    let t = tables::table_at(storage, at);
-    if at >= OUTSIDE {
-        return false;
-    }
-    if names[(at / 4096) as usize] == 1 {
-        return true;
-    }
-    let reach = tables::reach_from(t, page % 256, next - page);
-    table_marked(t, page % 256, reach, names)
-}
-
-// So for the host pages from one up to another.
-pub fn entries_marked(
-    storage: &[u8],
-    designation: u32,
-    from: u32,
-    to: u32,
-    names: &[u8; 4096],
-) -> bool
-    requires { (from ≤ to) × ((to ≤ 524288) × (length storage.now ≤ 16777216)) }
-    ensures { Tells (EntryMarked designation storage.now from to names.now) result }
-{
-    let mut page = from;
-    while page < to {
-        let next = tables::segment_end(page, to);
-        if segment_marked(storage, designation, page, next, names) {
-            return true;
-        }
-        page = next;
-    }
-    false
+    pages.spans().any(|span| span_marked(host, span, marks))
 }

@@ -1,2 +1,3 @@
 pub mod Tabling
-pub mod Pages
+pub mod Entries
+pub mod Spanning

@@ -1,128 +1,80 @@
-// A host segment's pages by its entry: where the entry stands, and the page table that it names, with how many of its entries are in
-// reach. What is found serves every page of the segment. Each contract equates with the tests of desk's Reach.
+// A host's tables, a segment at a time: where the entry of a segment stands, and the entries of its pages that are in reach. Each
+// contract equates with the tests of desk's Reach.
 #![tactic(auto)]
 
-ghost use Rattle.std.specs.Prelude.{◌≡◌, ℕ, ◌+◌, ◌*◌, ◌/◌, ◌≤◌, ◌<◌, ltb, length};
-ghost use Rattle.tables.specs.Tabling.{SegmentAt, TableOf, PageAt, Inside, Cut, word_valid};
+ghost use Rattle.std.specs.Prelude.{◌≡◌, ℕ, ◌/◌, ◌+◌, ◌≤◌, ◌<◌, length, Some};
+ghost use Rattle.tables.specs.Tabling.{SegmentAt, SegmentThere, TableAt, EntriesOf, PageAt, word_valid};
 
-// A host page table: where it begins, and how many of its entries are in reach.
+mod spans;
+
+pub use spans::{Pages, Span, Spans};
+use std::ops::Range;
+
+// A storage, and the designation of the segment table in it.
 #[derive(Clone, Copy)]
-pub struct Table {
-    pub base: u32,
-    pub limit: u32,
+pub struct Host<'a> {
+    pub storage: &'a [u8],
+    pub designation: u32,
 }
 
-// Numbers from here on say that an entry is out of reach.
-const OUTSIDE: u64 = 4294967296;
+impl<'a> Host<'a> {
+    // Where the segment entry of an index stands, in reach.
+    pub fn segment_at(self, index: u32) -> Option<usize>
+        requires { index < 2048 }
+        ensures { SegmentAt self.entry.designation self.entry.storage.now index result }
+    {
+        let at = (self.designation / 4096 % 524288 * 4096 + index * 4) as usize;
+        (index / 16 <= self.designation % 128 && at + 4 <= self.storage.len()).then_some(at)
+    }
 
-// Where the host segment entry of an index stands.
-pub fn segment_at(storage: &[u8], designation: u32, index: u32) -> u64
-    requires { index < 2048 }
-    ensures { SegmentAt designation storage.now index result }
-{
-    if designation % 128 < index / 16 {
-        return OUTSIDE;
+    // Where the entries of a span's pages stand that are in reach, those of its first pages; the segment entry stands here.
+    pub fn table_at(self, at: usize, span: Span) -> Range<usize>
+        requires { SegmentThere self.designation self.storage.now (span.from / 256) at }
+        ensures { TableAt self.entry.designation self.entry.storage.now span.from span.to result.start result.end }
+    {
+        let entry = words::word_at(self.storage, at);
+        let base = (entry / 64 % 33554432 * 64) as usize;
+        if entry / 32 % 2 == 1 || entry / 2147483648 % 2 == 1 || self.storage.len() < base {
+            return 0..0;
+        }
+        let limit = ((entry % 16 + 1) as usize * 16).min((self.storage.len() - base) / 4);
+        let first = span.index().min(limit);
+        let end = (span.index() + span.count()).min(limit);
+        base + first * 4..base + end * 4
     }
-    let at = designation / 4096 % 524288 * 4096 + index * 4;
-    if at as usize + 4 <= storage.len() {
-        return at as u64;
-    }
-    OUTSIDE
-}
 
-// A page table that begins here and has so many entries, as far as they lie in the storage.
-fn table_in(storage: &[u8], base: u32, count: u32) -> Table
-    requires { count ≤ 256 }
-    ensures { Cut storage.now base count result }
-{
-    if storage.len() <= base as usize {
-        return Table { base, limit: 0 };
+    // The entries of a span's pages that are in reach, those of its first pages.
+    pub fn entries_of(self, span: Span) -> &'a [[u8; 4]]
+        ensures { EntriesOf self.entry.designation self.entry.storage.now span.from span.to result.now }
+    {
+        match self.segment_at(span.segment()) {
+            Some(at) => self.storage[self.table_at(at, span)].as_chunks().0,
+            None => &[],
+        }
     }
-    let room = (storage.len() - base as usize) / 4;
-    if room < count as usize {
-        return Table {
-            base,
-            limit: room as u32,
+
+    // Where the entry of a page stands, in reach.
+    pub fn entry_at(self, page: u32) -> Option<usize>
+        requires { page < 524288 }
+        ensures { PageAt self.entry.designation self.entry.storage.now page result }
+    {
+        let span = Span {
+            from: page,
+            to: page + 1,
         };
+        let at = self.segment_at(span.segment())?;
+        let table = self.table_at(at, span);
+        (!table.is_empty()).then_some(table.start)
     }
-    Table { base, limit: count }
-}
-
-// A table with no entry in reach.
-fn no_table() -> Table
-    ensures { result.limit ≡ 0 }
-{
-    Table { base: 0, limit: 0 }
-}
-
-// The page table of the segment whose entry stands here.
-pub fn table_at(storage: &[u8], at: u64) -> Table
-    requires { at < 4294967296 → at + 4 ≤ length storage.now }
-    ensures { ((d index : ℕ) → SegmentAt d storage.now index at → TableOf d storage.now index result) × Inside storage.now result }
-{
-    if at >= OUTSIDE {
-        return no_table();
-    }
-    let entry = words::word_at(storage, at as usize);
-    if entry / 32 % 2 == 1 {
-        return no_table();
-    }
-    if entry / 2147483648 % 2 == 1 {
-        return no_table();
-    }
-    table_in(storage, entry / 64 % 33554432 * 64, (entry % 16 + 1) * 16)
 }
 
 // Whether a page entry says a valid page.
+#[tactic(auto, unfolding(crate::specs::Tabling::word_valid))]
 pub fn says_valid(entry: u32) -> bool
     ensures { result ≡ word_valid entry }
 {
-    if entry / 1024 % 2 == 1 {
-        return false;
-    }
-    if entry / 2147483648 % 2 == 1 {
-        return false;
-    }
-    if entry / 2048 % 2 == 1 {
-        return false;
-    }
-    entry / 256 % 2 != 1
-}
-
-// Of so many indexes of a table from one on, how many are in reach.
-pub fn reach_from(t: Table, from: u32, count: u32) -> u32
-    ensures { (result ≤ count) × ((k : ℕ) → k < count → ltb (from + k) t.limit ≡ ltb k result) }
-{
-    if t.limit <= from {
-        return 0;
-    }
-    if t.limit - from < count {
-        return t.limit - from;
-    }
-    count
-}
-
-// Where the pages of a page's segment end, or an earlier end.
-pub fn segment_end(page: u32, to: u32) -> u32
-    requires { (page < to) × (to ≤ 524288) }
-    ensures { (page < result) × ((result ≤ to) × (result ≤ page / 256 * 256 + 256)) }
-{
-    let end = page / 256 * 256 + 256;
-    if end < to {
-        return end;
-    }
-    to
-}
-
-// Where the page entry of a host page stands.
-pub fn entry_at(storage: &[u8], designation: u32, page: u32) -> u64
-    requires { (page < 524288) × (length storage.now ≤ 16777216) }
-    ensures { PageAt designation storage.now page result }
-{
-    let t = table_at(storage, segment_at(storage, designation, page / 256));
-    let i = page % 256;
-    if i >= t.limit {
-        return OUTSIDE;
-    }
-    t.base as u64 + i as u64 * 4
+    entry / 1024 % 2 == 0
+        && entry / 2147483648 % 2 == 0
+        && entry / 2048 % 2 == 0
+        && entry / 256 % 2 == 0
 }

@@ -1,13 +1,14 @@
 -- Where the halfwords of a text stand, and the marks of their frames.
 -- Assumes nothing.
+use Rattle.std.specs.Prelude.{Err}
 use Prim.Native.Nat.{ℕ, ◌+◌, ◌*◌, ◌/◌, ◌%◌, ◌≤◌, ◌<◌}
 use native.Mathlib.Nat.{add-zero}
 use native.Mathlib.Omega.{arith}
 use mathlib.Core.Path.{◌≡◌, refl, ap, sym, subst, ◌∙◌}
-use mathlib.Core.Bool.{Bool, true, false, cond}
+use mathlib.Core.Bool.{Bool, true, false}
 use mathlib.Core.List.{List}
-use borrow.Author.Tests.{ltb-true, ltb-false, ne_eqb}
-use lib.Dec.{eqb, ltb}
+use borrow.Author.Tests.{ltb-true, ltb-false}
+use lib.Dec.{ltb}
 use lib.ListN.{length, get_or}
 use lib.Seq.{set-set, set_out, get_or-set_same}
 use Rattle.machine.specs.declared.Cpu.{Cpu}
@@ -19,14 +20,13 @@ use Rattle.machine.specs.Host.{Host, host, referenced}
 use Rattle.laws.proofs.PageBytes.{wrap_by_mode, referenced_twice}
 use Rattle.laws.proofs.Pages.{wrap-in_page}
 use Rattle.marks.specs.Marks.{mark_frame}
-use Rattle.operands.specs.declared.Operand.{Operand}
-use Rattle.operands.specs.declared.Operand.TheVariants.{Open, Shut}
-use Rattle.operands.specs.Operands.{operand_of}
+use Rattle.operands.specs.Operands.{operand_of, Operand, in_pieces}
 use Rattle.operands.proofs.Operands.{operand_open}
 use Rattle.operands.proofs.Reached.{operand_code, operand_keys, operand_offset, operand_further, operand_in_page}
 use Rattle.interruptions.specs.declared.Frames.{Frames}
+use Rattle.interruptions.specs.declared.Frames.TheVariants as frames
 use Rattle.interruptions.specs.After.{WithKeys, mark_text}
-use Rattle.text.specs.Fetching.{Halfword, EndsIn, no_frames, one_frame, and_frame}
+use Rattle.text.specs.Fetching.{Halfword, OnePage, EndsIn, no_frames, one_frame, and_frame}
 
 pub wrap_below : (c : Cpu) (a : ℕ) → wrap c a < 2147483648
 wrap_below c a = wrap_by_mode (λ w. w a < 2147483648) c (omega arith) (omega arith)
@@ -56,20 +56,20 @@ module _ {h : Host} {g : Guest} {c : Cpu} {n a : ℕ} where
       found.address
 
   -- why it cannot be read
-  pub shut : {o : Operand} {f : Failure} → Halfword h g c n a o → o ≡ Shut f → Halfword h g c n a (Shut f)
+  pub shut : {o : Operand} {f : Failure} → Halfword h g c n a o → o ≡ Err f → Halfword h g c n a (Err f)
   shut found e = subst (Halfword h g c n a) e found
 
-  pub small_code : {f : Failure} → Halfword h g c n a (Shut f) → f.code < 65536
+  pub small_code : {f : Failure} → Halfword h g c n a (Err f) → f.code < 65536
   small_code found = operand_code g h c false a 2 (sym found.sought)
 
   -- a halfword does not cross a page's end
-  pub opened : {o : Operand} {p m q : ℕ} → Halfword h g c n a o → o ≡ Open p m q → Halfword h g c n a (Open p 2 0)
+  pub opened : {o : Operand} {p m q : ℕ} → Halfword h g c n a o → o ≡ in_pieces p m q → Halfword h g c n a (in_pieces p 2 0)
   opened {p = p} {m = m} {q = q} found e =
       let (two, none) = operand_in_page g h c false a 2 (omega (arith, found.even)) (sym found.sought ∙ e) in
       record {
         address = found.address;
         even = found.even;
-        sought = ap (λ m. Open p m 0) (sym two) ∙ ap (Open p m) (sym none) ∙ sym e ∙ found.sought;
+        sought = ap (λ m. in_pieces p m 0) (sym two) ∙ ap (in_pieces p m) (sym none) ∙ sym e ∙ found.sought;
       }
 
   -- the halfword after it
@@ -87,7 +87,7 @@ module _ {h : Host} {g : Guest} {c : Cpu} {n a : ℕ} where
   pub next-page : {o : Operand} {b : ℕ} → Halfword h g c n a o → b ≡ wrap c (a + 2) → 4094 ≤ a % 4096 → b % 4096 ≡ 0
   next-page {b = b} found e ends = wrap_by_mode (λ w. b ≡ w (a + 2) → b % 4096 ≡ 0) c (omega (arith, found.even)) (omega (arith, found.even)) e
 
-  module _ {p : ℕ} (found : Halfword h g c n a (Open p 2 0)) where
+  module _ {p : ℕ} (found : Halfword h g c n a (in_pieces p 2 0)) where
     pub fits : p + 2 ≤ length h.storage
     fits =
         let (ls, reached, opened) = operand_open g h c false a 2 (wrapped found) (omega arith) (omega arith) (sym found.sought) in
@@ -97,31 +97,31 @@ module _ {h : Host} {g : Guest} {c : Cpu} {n a : ℕ} where
     same_offset = operand_offset g h c false a 2 (sym found.sought)
 
     -- the next halfword stands beside it in the page
-    pub further : a % 4096 < 4094 → Halfword h g c (n + 1) (a + 2) (Open (p + 2) 2 0)
+    pub further : a % 4096 < 4094 → Halfword h g c (n + 1) (a + 2) (in_pieces (p + 2) 2 0)
     further inside =
         next found (sym (wrap-in_page c a (a + 2) (wrapped found) (omega arith)))
         (sym (operand_further g h c a 2 2 (omega arith) (omega (arith, found.even)) (sym found.sought)))
 
 -- the keys and the marks of frames
 
-pub keyed : {g : Guest} {d : ℕ} {s k : List ℕ} {c : Cpu} {n a p : ℕ} → frames_of s ≤ length k → Halfword (host d s k) g c n a (Open p 2 0)
+pub keyed : {g : Guest} {d : ℕ} {s k : List ℕ} {c : Cpu} {n a p : ℕ} → frames_of s ≤ length k → Halfword (host d s k) g c n a (in_pieces p 2 0)
     → p / 4096 < length k
 keyed {g} {d} {s} {k} {c} {n} {a} each found = (operand_keys g d s k c false a 2 each (sym found.sought)).0
 
-pub none_keyed : {k : List ℕ} → WithKeys k no_frames
-none_keyed = record { first = λ some. absurd (omega arith); second = λ some. absurd (omega arith) }
+pub one_page : (t : Frames) (a place : ℕ) → EndsIn t a place → 4094 ≤ a % 4096 → OnePage t
+one_page frames.None a place ends late = elim ends [ ]
+one_page (frames.One first) a place ends late = tt
+one_page (frames.Two first second) a place (last, early) late = absurd (omega arith)
 
-pub one_keyed : {k : List ℕ} (p : ℕ) → p / 4096 < length k → WithKeys k (one_frame p)
-one_keyed p key = record { first = λ _. key; second = λ more. absurd (omega arith) }
+pub and_keyed : (k : List ℕ) (t : Frames) (p : ℕ) → WithKeys k t → OnePage t → p / 4096 < length k → WithKeys k (and_frame t p)
+and_keyed k frames.None p keys one key = elim one [ ]
+and_keyed k (frames.One first) p keys one key = (keys, key)
+and_keyed k (frames.Two first second) p keys one key = elim one [ ]
 
-pub and_keyed : {k : List ℕ} {t : Frames} (p : ℕ) → WithKeys k t → t.count ≡ 1 → p / 4096 < length k → WithKeys k (and_frame t p)
-and_keyed p keys one key = record { first = λ _. keys.first (omega arith); second = λ _. key }
-
-pub ends_in_first : (p q a : ℕ) → p / 4096 ≡ q / 4096 → EndsIn (one_frame p) a q
-ends_in_first p q a same = record { some = omega arith; last = same; once = λ _. refl }
-
-pub ends_in_second : (t : Frames) (p a : ℕ) → a % 4096 ≡ 0 → EndsIn (and_frame t p) a p
-ends_in_second t p a start = record { some = omega arith; last = refl; once = λ late. absurd (omega arith) }
+pub ends_in_second : (t : Frames) (p a : ℕ) → OnePage t → a % 4096 ≡ 0 → EndsIn (and_frame t p) a p
+ends_in_second frames.None p a one start = elim one [ ]
+ends_in_second (frames.One first) p a one start = (refl, omega arith)
+ends_in_second (frames.Two first second) p a one start = elim one [ ]
 
 frame_twice : (f : ℕ) (keys : List ℕ) → mark_frame referenced f (mark_frame referenced f keys) ≡ mark_frame referenced f keys
 frame_twice f keys = by_length (ltb f (length keys)) refl
@@ -131,24 +131,21 @@ frame_twice f keys = by_length (ltb f (length keys)) refl
     by_length false e = let past : length keys ≤ f = ltb-false _ _ e in simp set_out
 
 -- the last frame is marked already
-pub marked_once : {t : Frames} {a place : ℕ} → EndsIn t a place → (p : ℕ) → place / 4096 ≡ p / 4096 → (keys : List ℕ)
+pub marked_once : (t : Frames) (a place : ℕ) → EndsIn t a place → (p : ℕ) → place / 4096 ≡ p / 4096 → (keys : List ℕ)
     → mark_frame referenced (p / 4096) (mark_text t keys) ≡ mark_text t keys
 unfolding mark_text
-marked_once {t} ends p same keys = rw (ne_eqb t.count 0 (omega (arith, ends.some)), ← same, ← ends.last) (by_count (eqb t.count 1))
-  where
-    by_count : (b : Bool)
-        → mark_frame referenced (cond b t.first t.second)
-        (cond b (mark_frame referenced t.first keys) (mark_frame referenced t.second (mark_frame referenced t.first keys)))
-        ≡ cond b (mark_frame referenced t.first keys) (mark_frame referenced t.second (mark_frame referenced t.first keys))
-    by_count true = frame_twice t.first keys
-    by_count false = frame_twice t.second (mark_frame referenced t.first keys)
+marked_once frames.None a place ends p same keys = elim ends [ ]
+marked_once (frames.One first) a place ends p same keys = rw (← same, ← ends) (frame_twice first keys)
+marked_once (frames.Two first second) a place (last, early) p same keys = rw (← same, ← last) (frame_twice second (mark_frame referenced first keys))
 
 pub marked_first : (p : ℕ) (keys : List ℕ) → mark_frame referenced (p / 4096) (mark_text no_frames keys) ≡ mark_text (one_frame p) keys
 unfolding mark_text
 marked_first p keys = refl
 
 -- a second frame is marked after the first
-pub marked_next : (t : Frames) (place : ℕ) → t.count ≡ 1 → (keys : List ℕ)
+pub marked_next : (t : Frames) (place : ℕ) → OnePage t → (keys : List ℕ)
     → mark_frame referenced (place / 4096) (mark_text t keys) ≡ mark_text (and_frame t place) keys
 unfolding mark_text
-marked_next t place one keys = rw one
+marked_next frames.None place one keys = elim one [ ]
+marked_next (frames.One first) place one keys = refl
+marked_next (frames.Two first second) place one keys = elim one [ ]

@@ -1,7 +1,8 @@
 -- The order of an instruction's tests, test by test.
 -- Assumes nothing.
+use Rattle.std.specs.Prelude.{None, Some, Option}
 use Prim.Native.Nat.{ℕ}
-use mathlib.Core.Bool.{Bool, true, false, cond, ◌&&◌}
+use mathlib.Core.Bool.{false, ◌&&◌}
 use mathlib.Core.List.{List}
 use mathlib.Core.Path.{◌≡◌, ap, sym, subst, ◌∙◌}
 use Rattle.machine.specs.declared.Class.{Class}
@@ -26,7 +27,7 @@ use Rattle.cpu.specs.declared.Before.{Before}
 use Rattle.cpu.specs.declared.Before.TheVariants.{Ends, Malformed}
 use Rattle.cpu.specs.Before.{unit_after}
 use Rattle.text.specs.declared.Reading.{Reading}
-use Rattle.text.specs.Fetching.{FetchedAs}
+use Rattle.text.specs.Fetching.{after_fetch, FetchedAs}
 use Rattle.interruptions.specs.declared.Done.{Done}
 use Rattle.interruptions.specs.declared.Event.TheVariants as event
 use Rattle.interruptions.specs.declared.Frames.{Frames}
@@ -67,22 +68,18 @@ performed_unassigned h g c x d f code known left = performed h g c x d known (by
 -- the fetch of the text, as it ended
 module _ (h : Host) (g : Guest) (clock : ℕ) (c : Cpu) {o : Outcome} (code : Opcode) (r : Reading) (d : Done) {storage keys : List ℕ}
     (fetched : FetchedAs h g clock c o code r) where
-  by_end : (b : Bool) → r.failed ≡ b → Left h g c (cond b (exception fetched.0 c r.failure) (decoded fetched.0 code)) d storage keys
-      → Left h g c o d storage keys
-  by_end b ends left =
-      subst (λ o. Left h g c o d storage keys)
-      (sym (fetched.2 ∙ ap (λ b. cond b (exception fetched.0 c r.failure) (decoded fetched.0 code)) ends))
-      left
+  by_end : (e : Option Failure) → r.failure ≡ e → Left h g c (after_fetch fetched.0 c code e) d storage keys → Left h g c o d storage keys
+  by_end e ends left =
+      subst (λ o. Left h g c o d storage keys) (sym (fetched.2 ∙ ap (after_fetch fetched.0 c code) ends)) left
 
-  pub fetch_failed : r.failed ≡ true
-      → ((x : Progress) → Standing h x g clock c r.text r.frames → Left h g c (exception x x.cpu r.failure) d storage keys)
-      → Left h g c o d storage keys
-  fetch_failed ends left =
-      by_end true ends (subst (λ k. Left h g c (exception fetched.0 k r.failure) d storage keys) fetched.1.of_cpu (left fetched.0 fetched.1))
+  pub fetch_failed : (f : Failure) → r.failure ≡ Some f
+      → ((x : Progress) → Standing h x g clock c r.text r.frames → Left h g c (exception x x.cpu f) d storage keys) → Left h g c o d storage keys
+  fetch_failed f ends left =
+      by_end (Some f) ends (subst (λ k. Left h g c (exception fetched.0 k f) d storage keys) fetched.1.of_cpu (left fetched.0 fetched.1))
 
-  pub fetch_whole : r.failed ≡ false
+  pub fetch_whole : r.failure ≡ None
       → ((x : Progress) → Standing h x g clock c r.text r.frames → Left h g c (decoded x code) d storage keys) → Left h g c o d storage keys
-  fetch_whole ends left = by_end false ends (left fetched.0 fetched.1)
+  fetch_whole ends left = by_end None ends (left fetched.0 fetched.1)
 
 -- a unit by what the list before it comes to
 module _ (h : Host) (g : Guest) (clock : ℕ) (c : Cpu) (before : Before) (d : Done) where

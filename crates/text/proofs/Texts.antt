@@ -1,5 +1,6 @@
 -- What is left to do of an instruction, by where its next halfword is found.
 -- Assumes nothing.
+use Rattle.std.specs.Prelude.{Err}
 use Prim.Native.Nat.{ℕ, ◌+◌, ◌*◌, ◌-◌, ◌/◌, ◌%◌, ◌≤◌, ◌<◌}
 use native.Mathlib.Nat.{add-zero}
 use native.Mathlib.Omega.{arith}
@@ -29,9 +30,7 @@ use Rattle.machine.specs.Units.{decoded, halfword, reading, first_text, second_t
 use Rattle.laws.proofs.PageBytes.{span_of_wrap, marked_append, referenced_twice}
 use Rattle.address.specs.Touching.{seen}
 use Rattle.marks.specs.Marks.{mark_frame}
-use Rattle.operands.specs.declared.Operand.{Operand}
-use Rattle.operands.specs.declared.Operand.TheVariants.{Open, Shut}
-use Rattle.operands.specs.Operands.{operand_of}
+use Rattle.operands.specs.Operands.{operand_of, Operand, in_pieces}
 use Rattle.operands.proofs.Operands.{operand_shut, operand_open}
 use Rattle.operands.proofs.Seen.{operand_seen}
 use Rattle.interruptions.specs.declared.Frames.{Frames}
@@ -78,12 +77,12 @@ module _ {h : Host} {x : Progress} {g : Guest} {clock : ℕ} {c : Cpu} {text : T
       rw (standing.of_guest, standing.of_view, standing.of_cpu)
       (ap (accesses (access g (view g h) c false)) (sym (span_of_wrap c _ 2) ∙ ap (λ b. span c b 2) (sym found.address)))
 
-  halfword_shut : {f : Failure} → Halfword h g (seen psw control) n a (Shut f) → halfword x n ≡ stopped f
+  halfword_shut : {f : Failure} → Halfword h g (seen psw control) n a (Err f) → halfword x n ≡ stopped f
   halfword_shut found =
       let here = there found in
       at_address here ∙ operand_shut g h c false a 2 (wrapped here) (omega arith) (omega arith) (sym here.sought)
 
-  halfword_open : {p : ℕ} → Halfword h g (seen psw control) n a (Open p 2 0) → (ls : List Located) × Read h x g clock c t n p ls
+  halfword_open : {p : ℕ} → Halfword h g (seen psw control) n a (in_pieces p 2 0) → (ls : List Located) × Read h x g clock c t n p ls
   unfolding reading
   halfword_open {p} found =
       let here = there found in
@@ -157,24 +156,24 @@ module _ {h : Host} {g : Guest} {psw : Psw} {control : Registers} (text : Text) 
 
   -- the next halfword cannot be read
   module _ (code : Opcode) (f : Failure) {a : ℕ} where
-    pub first_shut : Halfword h g (seen psw control) 0 a (Shut f) → Fetches h g psw control text t instruction code (cut_short f text t)
+    pub first_shut : Halfword h g (seen psw control) 0 a (Err f) → Fetches h g psw control text t instruction code (cut_short f text t)
     unfolding instruction when_reached
     first_shut found x clock c of_psw of_control standing =
         (x, standing, rw (not_odd standing of_psw of_control 0 found, halfword_shut standing of_psw of_control 0 found) (ap (λ k. exception x k f) standing.of_cpu))
 
-    pub second_shut : 2 ≤ text.ilc → Halfword h g (seen psw control) 1 a (Shut f) → Fetches h g psw control text t fetch_second code (cut_short f text t)
+    pub second_shut : 2 ≤ text.ilc → Halfword h g (seen psw control) 1 a (Err f) → Fetches h g psw control text t fetch_second code (cut_short f text t)
     unfolding fetch_second when_reached
     second_shut more found x clock c of_psw of_control standing =
         (x, standing, rw (long standing 2 more, halfword_shut standing of_psw of_control 1 found) (ap (λ k. exception x k f) standing.of_cpu))
 
-    pub third_shut : 3 ≤ text.ilc → Halfword h g (seen psw control) 2 a (Shut f) → Fetches h g psw control text t fetch_third code (cut_short f text t)
+    pub third_shut : 3 ≤ text.ilc → Halfword h g (seen psw control) 2 a (Err f) → Fetches h g psw control text t fetch_third code (cut_short f text t)
     unfolding fetch_third when_reached
     third_shut more found x clock c of_psw of_control standing =
         (x, standing, rw (long standing 3 more, halfword_shut standing of_psw of_control 2 found) (ap (λ k. exception x k f) standing.of_cpu))
 
   -- the next halfword stands at p, and its frame is among the frames from then on
   module _ (p : ℕ) {a : ℕ} (t' : Frames) (marks : (k : List ℕ) → mark_frame referenced (p / 4096) (mark_text t k) ≡ mark_text t' k) where
-    pub first_open : (text' : Text) (code : Opcode) (r : Reading) → Halfword h g (seen psw control) 0 a (Open p 2 0)
+    pub first_open : (text' : Text) (code : Opcode) (r : Reading) → Halfword h g (seen psw control) 0 a (in_pieces p 2 0)
         → text' ≡ first_text psw.system370 (half_at h.storage p) → code ≡ opcode_of psw.system370 text'.first
         → Fetches h g psw control text' t' fetch_second (opcode_of psw.system370 text'.first) r → Fetches h g psw control text t instruction code r
     unfolding instruction when_reached
@@ -185,7 +184,7 @@ module _ {h : Host} {g : Guest} {psw : Psw} {control : Registers} (text : Text) 
         rw (not_odd standing of_psw of_control 0 found, read.reached, isText) (λ i. fetch_second (reading x (first_text (architecture standing of_psw i) (read.half i)) ls)) in
         (y, stands, step ∙ same)
 
-    pub second_open : (text' : Text) (r : Reading) → 2 ≤ text.ilc → Halfword h g (seen psw control) 1 a (Open p 2 0)
+    pub second_open : (text' : Text) (r : Reading) → 2 ≤ text.ilc → Halfword h g (seen psw control) 1 a (in_pieces p 2 0)
         → text' ≡ second_text text (half_at h.storage p) → Fetches h g psw control text' t' fetch_third (opcode_of psw.system370 text'.first) r
         → Fetches h g psw control text t fetch_second (opcode_of psw.system370 text.first) r
     unfolding fetch_second when_reached
@@ -196,7 +195,7 @@ module _ {h : Host} {g : Guest} {psw : Psw} {control : Registers} (text : Text) 
         rw (long standing 2 more, read.reached, isText) (λ i. fetch_third (reading x (second_text (standing.of_text i) (read.half i)) ls)) in
         (y, stands, step ∙ same)
 
-    pub third_open : 3 ≤ text.ilc → Halfword h g (seen psw control) 2 a (Open p 2 0)
+    pub third_open : 3 ≤ text.ilc → Halfword h g (seen psw control) 2 a (in_pieces p 2 0)
         → Fetches h g psw control text t fetch_third (opcode_of psw.system370 text.first) (whole (third_text text (half_at h.storage p)) t')
     unfolding fetch_third when_reached
     third_open more found x clock c of_psw of_control standing =

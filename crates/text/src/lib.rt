@@ -2,7 +2,7 @@
 // table of opcodes. Each contract equates with machine's Units.
 #![tactic(auto)]
 
-ghost use Rattle.std.specs.Prelude.{◌≡◌, false, ℕ, ◌+◌, ◌%◌, ◌≤◌, ◌<◌, length};
+ghost use Rattle.std.specs.Prelude.{◌≡◌, false, ℕ, ◌%◌, ◌+◌, ◌≤◌, ◌<◌, length};
 ghost use Rattle.machine.specs.declared.Cpu.{Cpu};
 ghost use Rattle.machine.specs.Refusals.{frames_of};
 ghost use Rattle.machine.specs.Words.{half_at};
@@ -11,20 +11,19 @@ ghost use Rattle.machine.specs.Opcodes.{opcode_of};
 ghost use Rattle.machine.specs.Units.{second_text, third_text, fetch_third, fetch_second, started, instruction};
 ghost use Rattle.storage.specs.Entered.{Entered};
 ghost use Rattle.address.specs.Touching.{seen};
-ghost use Rattle.operands.specs.Operands.{operand_of};
+ghost use Rattle.operands.specs.Operands.{operand_of, in_pieces};
 ghost use Rattle.interruptions.specs.After.{WithKeys};
-ghost use Rattle.text.specs.Fetching.{FetchedAs, Fetches, Usable, Halfword, no_text, no_frames, one_frame, EndsIn, cut_short, whole, unfetched};
+ghost use Rattle.text.specs.Fetching.{FetchedAs, Fetches, Usable, Halfword, one_frame, and_frame, EndsIn, cut_short, whole, unfetched};
 
-use interruptions::Frames;
+use interruptions::{Frames, SPECIFICATION};
 use machine::{Class, Failure, Guest, Opcode, Psw, Registers, Text};
 use operands::Operand;
+use pieces::Pieces;
 
-// The text of an instruction as far as it is fetched, the frames it was fetched from, and why the next halfword was not where
-// `failed`.
+// The text of an instruction as far as it is fetched, the frames it was fetched from, and why the next halfword was not, if it was not.
 #[derive(Clone, Copy)]
 pub struct Reading {
-    pub failed: bool,
-    pub failure: Failure,
+    pub failure: Option<Failure>,
     pub text: Text,
     pub frames: Frames,
 }
@@ -45,19 +44,12 @@ struct Addressing {
     control: Registers,
 }
 
-const SPECIFICATION: u32 = 6;
-
 // The whole text.
 fn whole(text: Text, frames: Frames) -> Reading
     ensures { result ≡ whole text frames }
 {
     Reading {
-        failed: false,
-        failure: Failure {
-            host: false,
-            code: 0,
-            address: 0,
-        },
+        failure: None,
         text,
         frames,
     }
@@ -68,8 +60,7 @@ fn cut_short(failure: Failure, text: Text, frames: Frames) -> Reading
     ensures { result ≡ cut_short failure text frames }
 {
     Reading {
-        failed: true,
-        failure,
+        failure: Some(failure),
         text,
         frames,
     }
@@ -91,13 +82,21 @@ fn unfetched(f: Failure) -> Fetched
         second: 0,
         third: 0,
     };
-    let frames = Frames {
-        count: 0,
-        first: 0,
-        second: 0,
-    };
-    let reading = cut_short(f, text, frames);
-    Fetched { opcode, reading }
+    Fetched {
+        opcode,
+        reading: cut_short(f, text, Frames::None),
+    }
+}
+
+// The frame of a place on another page, after the first.
+#[tactic(auto, unfolding(crate::specs::Fetching::and_frame))]
+fn and_frame(frames: Frames, place: u32) -> Frames
+    ensures { result ≡ and_frame frames place }
+{
+    match frames {
+        Frames::None => Frames::One(place / 4096),
+        Frames::One(first) | Frames::Two(first, _) => Frames::Two(first, place / 4096),
+    }
 }
 
 // The text with its second halfword.
@@ -105,12 +104,10 @@ fn with_second(storage: &[u8], text: Text, place: u32) -> Text
     requires { place + 2 ≤ length storage.now }
     ensures { result ≡ second_text text (half_at storage.now place) }
 {
-    let half = words::half_at(storage, place as usize);
     Text {
-        ilc: text.ilc,
-        first: text.first,
-        second: half as u16,
+        second: words::half_at(storage, place as usize),
         third: 0,
+        ..text
     }
 }
 
@@ -119,12 +116,9 @@ fn with_third(storage: &[u8], text: Text, place: u32) -> Text
     requires { place + 2 ≤ length storage.now }
     ensures { result ≡ third_text text (half_at storage.now place) }
 {
-    let half = words::half_at(storage, place as usize);
     Text {
-        ilc: text.ilc,
-        first: text.first,
-        second: text.second,
-        third: half as u16,
+        third: words::half_at(storage, place as usize),
+        ..text
     }
 }
 
@@ -146,39 +140,6 @@ fn find_half(storage: &[u8], keys: &[u8], by: Addressing, at: u32) -> Operand
     operands::one_page(2, place)
 }
 
-// The third halfword, on another page than the second.
-fn third_page(
-    storage: &[u8],
-    keys: &[u8],
-    by: Addressing,
-    text: Text,
-    frames: Frames,
-    at: u32,
-    operand: Operand,
-) -> Reading
-    requires entered { Entered by.guest × (frames_of storage.now ≤ length keys.now) }
-    requires with_keys { WithKeys keys.now frames × (frames.count ≡ 1) × (text.ilc ≡ 3) }
-    requires halfword { Halfword (host by.designation storage.now keys.now) by.guest (seen by.psw by.control) 2 at operand }
-    ensures fetches { Fetches (host by.designation storage.now keys.now) by.guest by.psw by.control text frames fetch_third (opcode_of by.psw.system370 text.first) result }
-    ensures usable { Usable keys.now result }
-{
-    match operand {
-        Operand::Shut(failure) => cut_short(failure, text, frames),
-        Operand::Open {
-            first: place,
-            count: _,
-            second: _,
-        } => {
-            let both = Frames {
-                count: 2,
-                first: frames.first,
-                second: place / 4096,
-            };
-            whole(with_third(storage, text, place), both)
-        }
-    }
-}
-
 // What follows the second halfword, which stands at place.
 fn fetch_third(
     storage: &[u8],
@@ -191,7 +152,7 @@ fn fetch_third(
 ) -> Reading
     requires entered { Entered by.guest × (frames_of storage.now ≤ length keys.now) }
     requires with_keys { WithKeys keys.now frames × (text.ilc ≤ 3) × EndsIn frames at place }
-    requires halfword { Halfword (host by.designation storage.now keys.now) by.guest (seen by.psw by.control) 1 at (Operand.Open place 2 0) }
+    requires halfword { Halfword (host by.designation storage.now keys.now) by.guest (seen by.psw by.control) 1 at (in_pieces place 2 0) }
     ensures fetches { Fetches (host by.designation storage.now keys.now) by.guest by.psw by.control text frames fetch_third (opcode_of by.psw.system370 text.first) result }
     ensures usable { Usable keys.now result }
 {
@@ -202,40 +163,10 @@ fn fetch_third(
         return whole(with_third(storage, text, place + 2), frames);
     }
     let next = address::wrapped(by.psw, at + 2);
-    let operand = find_half(storage, keys, by, next);
-    third_page(storage, keys, by, text, frames, next, operand)
-}
-
-// The second halfword, on another page than the first, and what follows it.
-fn second_page(
-    storage: &[u8],
-    keys: &[u8],
-    by: Addressing,
-    text: Text,
-    frames: Frames,
-    at: u32,
-    operand: Operand,
-) -> Reading
-    requires entered { Entered by.guest × (frames_of storage.now ≤ length keys.now) }
-    requires with_keys { WithKeys keys.now frames × (frames.count ≡ 1) × (2 ≤ text.ilc) × (text.ilc ≤ 3) × (at % 4096 ≡ 0) }
-    requires halfword { Halfword (host by.designation storage.now keys.now) by.guest (seen by.psw by.control) 1 at operand }
-    ensures fetches { Fetches (host by.designation storage.now keys.now) by.guest by.psw by.control text frames fetch_second (opcode_of by.psw.system370 text.first) result }
-    ensures usable { Usable keys.now result }
-{
-    match operand {
-        Operand::Shut(f) => cut_short(f, text, frames),
-        Operand::Open {
-            first: place,
-            count: _,
-            second: _,
-        } => {
-            let more = with_second(storage, text, place);
-            let both = Frames {
-                count: 2,
-                first: frames.first,
-                second: place / 4096,
-            };
-            fetch_third(storage, keys, by, more, both, at, place)
+    match find_half(storage, keys, by, next) {
+        Err(failure) => cut_short(failure, text, frames),
+        Ok(Pieces { first: place, .. }) => {
+            whole(with_third(storage, text, place), and_frame(frames, place))
         }
     }
 }
@@ -250,15 +181,11 @@ fn fetch_second(
     place: u32,
 ) -> Reading
     requires entered { Entered by.guest × (frames_of storage.now ≤ length keys.now) × (text.ilc ≤ 3) }
-    requires halfword { Halfword (host by.designation storage.now keys.now) by.guest (seen by.psw by.control) 0 at (Operand.Open place 2 0) }
+    requires halfword { Halfword (host by.designation storage.now keys.now) by.guest (seen by.psw by.control) 0 at (in_pieces place 2 0) }
     ensures fetches { Fetches (host by.designation storage.now keys.now) by.guest by.psw by.control text (one_frame place) fetch_second (opcode_of by.psw.system370 text.first) result }
     ensures usable { Usable keys.now result }
 {
-    let frames = Frames {
-        count: 1,
-        first: place / 4096,
-        second: 0,
-    };
+    let frames = Frames::One(place / 4096);
     if text.ilc < 2 {
         return whole(text, frames);
     }
@@ -267,34 +194,19 @@ fn fetch_second(
         return fetch_third(storage, keys, by, more, frames, at + 2, place + 2);
     }
     let next = address::wrapped(by.psw, at + 2);
-    let operand = find_half(storage, keys, by, next);
-    second_page(storage, keys, by, text, frames, next, operand)
-}
-
-// The first halfword, by where it is found, and what follows it.
-fn fetch_first(storage: &[u8], keys: &[u8], by: Addressing, at: u32, operand: Operand) -> Fetched
-    requires entered { Entered by.guest × (frames_of storage.now ≤ length keys.now) }
-    requires halfword { Halfword (host by.designation storage.now keys.now) by.guest (seen by.psw by.control) 0 at operand }
-    ensures fetches { Fetches (host by.designation storage.now keys.now) by.guest by.psw by.control no_text no_frames instruction result.opcode result.reading }
-    ensures usable { Usable keys.now result.reading × (0 < result.opcode.alignment) }
-{
-    match operand {
-        Operand::Shut(f) => unfetched(f),
-        Operand::Open {
-            first: place,
-            count: _,
-            second: _,
-        } => {
-            let half = words::half_at(storage, place as usize);
-            let opcode = decode::decode(by.psw.system370, half);
-            let text = Text {
-                ilc: opcode.length,
-                first: half as u16,
-                second: 0,
-                third: 0,
-            };
-            let reading = fetch_second(storage, keys, by, text, at, place);
-            Fetched { opcode, reading }
+    match find_half(storage, keys, by, next) {
+        Err(f) => cut_short(f, text, frames),
+        Ok(Pieces { first: place, .. }) => {
+            let more = with_second(storage, text, place);
+            fetch_third(
+                storage,
+                keys,
+                by,
+                more,
+                and_frame(frames, place),
+                next,
+                place,
+            )
         }
     }
 }
@@ -329,6 +241,19 @@ pub fn fetch(
         control,
     };
     let at = address::wrapped(psw, address);
-    let operand = find_half(storage, keys, by, at);
-    fetch_first(storage, keys, by, at, operand)
+    match find_half(storage, keys, by, at) {
+        Err(f) => unfetched(f),
+        Ok(Pieces { first: place, .. }) => {
+            let half = words::half_at(storage, place as usize);
+            let opcode = decode::decode(by.psw.system370, half as u32);
+            let text = Text {
+                ilc: opcode.length,
+                first: half,
+                second: 0,
+                third: 0,
+            };
+            let reading = fetch_second(storage, keys, by, text, at, place);
+            Fetched { opcode, reading }
+        }
+    }
 }

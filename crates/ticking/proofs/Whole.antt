@@ -1,5 +1,6 @@
 -- A unit with its tick, as the loop holds it, by what the interval timer does.
 -- Assumes nothing.
+use Rattle.std.specs.Prelude.{Err, Ok, None, Some}
 use Prim.Native.Nat.{ℕ, ◌<◌}
 use mathlib.Core.Path.{◌≡◌, refl, ap, sym, subst, ◌∙◌}
 use mathlib.Core.Bool.{Bool, true, false, ◌&&◌, false≢true}
@@ -19,15 +20,12 @@ use Rattle.machine.specs.Run.{host_of, word_accesses, goes, ends, step}
 use Rattle.interruptions.specs.declared.Done.{Done}
 use Rattle.interruptions.specs.After.{event_of, left_by, Left}
 use Rattle.execute.proofs.Reaching.{not_both}
-use Rattle.interval.specs.declared.Word.TheVariants as word
 use Rattle.ahead.specs.Completing.{is_complete, WordShut}
 use Rattle.unit.specs.Foretelling.{Comes}
 use Rattle.unit.proofs.Foretelling.{left_of}
-use Rattle.charging.specs.declared.Due.{Due}
-use Rattle.charging.specs.declared.Due.TheVariants.{Later, At, Shut}
 use Rattle.charging.specs.Ending.{is_completed, end_of, of_xa}
 use Rattle.remaining.specs.Remaining.{timed_at, machine_at, OfGuest}
-use Rattle.charging.specs.Ticking.{request_behind, WordFound, DueFound, is_shut, fault_end, Fallen}
+use Rattle.charging.specs.Ticking.{Due, request_behind, WordFound, DueFound, is_shut, fault_end, Fallen}
 use Rattle.remaining.proofs.Ticks.{guest_here}
 use Rattle.remaining.proofs.Steps.{machine_off, off_stops}
 use Rattle.remaining.proofs.Stepping.{Unit, untouched, leaves, step-leads, exit_steps, fall_steps, fault_steps}
@@ -41,7 +39,7 @@ complete_event (intercepted r c) = refl
 complete_event (faulted f) = refl
 
 -- the word is shut for the unit's host too
-word_shut : (designation : ℕ) (g : Guest) (storage keys : List ℕ) (f : Failure) → WordFound designation g storage (word.Shut f)
+word_shut : (designation : ℕ) (g : Guest) (storage keys : List ℕ) (f : Failure) → WordFound designation g storage (Err f)
     → (n : Numbers) (d : List ℕ) → n.designation ≡ designation → guest_of d ≡ g → WordShut g (host designation storage keys) f
 unfolding word_accesses host_of
 word_shut designation g storage keys f found n d designated own =
@@ -82,9 +80,9 @@ module _ (n : Numbers) (g : Guest) (d : List ℕ) (of : OfGuest g d) (c : Cpu) (
       where
         by_due : (due : Due) → DueFound n.designation g storage residue n.time due → Comes (is_shut due) h g c o done s k
             → (is_shut due && is_completed done.event) ≡ false → Left h g c o done s k
-        by_due Later found comes clear = comes.0 refl
-        by_due (At p) found comes clear = comes.0 refl
-        by_due (Shut f) (on, full, place) comes clear =
+        by_due None found comes clear = comes.0 refl
+        by_due (Some (Ok p)) found comes clear = comes.0 refl
+        by_due (Some (Err f)) (on, full, place) comes clear =
             let told = comes.1 refl f (word_shut n.designation g storage keys f place n d refl of.own) in
             left_of h g c o done (sym (complete_event o) ∙ sym (ap is_completed told.event) ∙ clear) told
 
@@ -104,17 +102,17 @@ module _ (n : Numbers) (g : Guest) (d : List ℕ) (of : OfGuest g d) (c : Cpu) (
           by_due : (due : Due) → (on : active g ≡ true) → DueFound n.designation g storage residue n.time due → (is_shut due && is_completed done.event) ≡ false → Fallen due request s request' s'
               → residue' ≡ residue_after residue n.time
               → step n (timed_at d c request residue clock storage keys) ≡ goes (timed_at d to request' residue' (clock_after clock n.time) s' k)
-          by_due Later on found seen (same, stored) rises =
+          by_due None on found seen (same, stored) rises =
               goes_rising n g d of c bounded kind request residue (λ _. small) clock storage keys asked begun.told done s k left whole to lasting state on (found on)
               ∙ (λ i. goes (timed_at d to (sym same i) (sym rises i) (clock_after clock n.time) (sym stored i) k))
-          by_due (At p) on (on', full, place) seen (same, stored) rises =
+          by_due (Some (Ok p)) on (on', full, place) seen (same, stored) rises =
               step-leads n d (of.timed on) of.own c bounded kind request residue small clock storage keys u lasting s k begun.told
               (leaves h g c o n.time done s k left true whole to state)
               ∙ fall_steps n d (of.timed on) of.own c bounded kind request residue small clock storage keys u lasting s k on whole full
               (place.stands n (timed_at d c request residue clock storage keys) refl refl (guest_here n d (of.timed on) of.own c bounded kind request residue small clock storage keys))
               ∙ goes_on d clock n.time (record { event = done.event; cpu = to; request = request_after request (word_at s p); residue = residue_after residue n.time }) _ k done.event whole
               ∙ (λ i. goes (timed_at d to (sym same i) (sym rises i) (clock_after clock n.time) (sym stored i) k))
-          by_due (Shut f) on found seen fallen rises = not_both whole seen
+          by_due (Some (Err f)) on found seen fallen rises = not_both whole seen
 
           by_active : (b : Bool) → active g ≡ b
               → step n (machine_at g d c request residue clock storage keys) ≡ goes (machine_at g d to request' residue' (clock_after clock n.time) s' k)
@@ -155,13 +153,13 @@ module _ (n : Numbers) (g : Guest) (d : List ℕ) (of : OfGuest g d) (c : Cpu) (
         by_due : (due : Due) → DueFound n.designation g storage residue n.time due → Comes (is_shut due) h g c o done s k
             → (is_shut due && is_completed done.event) ≡ true
             → step n (machine_at g d c request residue clock storage keys) ≡ ends (fault_end due) (machine_at g d c request residue clock s k)
-        by_due Later found comes seen = absurd (false≢true seen)
-        by_due (At p) found comes seen = absurd (false≢true seen)
-        by_due (Shut f) (on, full, place) comes whole =
+        by_due None found comes seen = absurd (false≢true seen)
+        by_due (Some (Ok p)) found comes seen = absurd (false≢true seen)
+        by_due (Some (Err f)) (on, full, place) comes whole =
             let told = comes.1 refl f (word_shut n.designation g storage keys f place n d refl of.own) in
             ap (step n) (machine_on g d on c request residue clock storage keys)
             ∙ fault_steps n d (of.timed on) of.own c bounded kind request residue small clock storage keys on full f
             (place.stands n (timed_at d c request residue clock storage keys) refl refl (guest_here n d (of.timed on) of.own c bounded kind request residue small clock storage keys))
             (ap (λ b. is_completed (event_of (unit g clock b (view g h) c))) (sym begun.told) ∙ sym (ap is_completed told.event) ∙ whole)
-            ∙ ap (ends (fault_end (Shut f))) (sym (machine_on g d on c request residue clock storage keys))
-            ∙ (λ i. ends (fault_end (Shut f)) (machine_at g d c request residue clock (sym told.bytes i) (sym told.marks i)))
+            ∙ ap (ends (fault_end (Some (Err f)))) (sym (machine_on g d on c request residue clock storage keys))
+            ∙ (λ i. ends (fault_end (Some (Err f))) (machine_at g d c request residue clock (sym told.bytes i) (sym told.marks i)))

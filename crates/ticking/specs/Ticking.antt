@@ -1,6 +1,7 @@
 -- One unit with its tick, from a state in hand: a step of the definition.
-use Rattle.std.specs.Prelude.{ℕ, ◌<◌, ◌≡◌, true, false, List}
+use Rattle.std.specs.Prelude.{ℕ, ◌<◌, ◌≡◌, None, Some, List}
 use Rattle.machine.specs.declared.Cpu.{Cpu}
+use Rattle.machine.specs.declared.End.{End}
 use Rattle.machine.specs.declared.Guest.{Guest}
 use Rattle.machine.specs.declared.Numbers.{Numbers}
 use Rattle.machine.specs.Record.{Bounded}
@@ -11,10 +12,10 @@ use Rattle.ticking.specs.declared.Step.{Step}
 
 -- it completes, and the run goes on; or it ends the run
 pub record Steps (designation : ℕ) (g : Guest) (clock time : ℕ) (c : Cpu) (request residue : ℕ) (storage keys : List ℕ) (r : Step) (storage' keys' : List ℕ) : Type 0 where
-  pub bounded : r.completed ≡ true → Bounded r.cpu
-  pub architecture : r.completed ≡ true → r.cpu.psw.system370 ≡ c.psw.system370
-  pub small : r.completed ≡ true → r.residue < period
-  pub on : r.completed ≡ true → (n : Numbers) (d : List ℕ) → n.designation ≡ designation → n.time ≡ time → OfGuest g d
+  pub bounded : r.end ≡ None → Bounded r.cpu
+  pub architecture : r.end ≡ None → r.cpu.psw.system370 ≡ c.psw.system370
+  pub small : r.end ≡ None → r.residue < period
+  pub on : r.end ≡ None → (n : Numbers) (d : List ℕ) → n.designation ≡ designation → n.time ≡ time → OfGuest g d
       → step n (machine_at g d c request residue clock storage keys) ≡ goes (machine_at g d r.cpu r.request r.residue r.clock storage' keys')
-  pub exit : r.completed ≡ false → (n : Numbers) (d : List ℕ) → n.designation ≡ designation → n.time ≡ time → OfGuest g d
-      → step n (machine_at g d c request residue clock storage keys) ≡ ends r.end (machine_at g d r.cpu r.request r.residue clock storage' keys')
+  pub exit : (e : End) → r.end ≡ Some e → (n : Numbers) (d : List ℕ) → n.designation ≡ designation → n.time ≡ time → OfGuest g d
+      → step n (machine_at g d c request residue clock storage keys) ≡ ends e (machine_at g d r.cpu r.request r.residue clock storage' keys')

@@ -10,12 +10,10 @@ ghost use Rattle.ticking.specs.Ticking.{Steps};
 
 use machine::{Cpu, End, Guest};
 
-// What it comes to: whether it completed, and how it ends the run otherwise; the state, the host clock, and the timer's request byte
-// and residue.
+// What it comes to: how it ends the run, if it does not complete; the state, the host clock, and the timer's request byte and residue.
 #[derive(Clone, Copy)]
 pub struct Step {
-    pub completed: bool,
-    pub end: End,
+    pub end: Option<End>,
     pub cpu: Cpu,
     pub clock: u64,
     pub request: u8,
@@ -56,8 +54,7 @@ pub fn unit(
     let event = done.event;
     if charging::undone(due, event) {
         return Step {
-            completed: false,
-            end: charging::fault_end(due),
+            end: Some(charging::fault_end(due)),
             cpu: start,
             clock,
             request,
@@ -68,8 +65,7 @@ pub fn unit(
     if charging::completed(event) {
         let ticked = charging::tick(storage, timed, due, request, residue, time);
         return Step {
-            completed: true,
-            end: End::BudgetUsed,
+            end: None,
             cpu: charging::charged(left, time),
             clock: clocks::clock_after(clock, time),
             request: ticked.request,
@@ -77,8 +73,7 @@ pub fn unit(
         };
     }
     Step {
-        completed: false,
-        end: charging::end_of(event),
+        end: Some(charging::end_of(event)),
         cpu: left,
         clock,
         request: charging::behind_exit(timed, event, request),

@@ -1,8 +1,9 @@
 -- A unit told ahead: what does not complete leaves storage and keys as they were.
 -- Assumes nothing.
+use Rattle.std.specs.Prelude.{None}
 use Prim.Native.Nat.{ℕ}
 use mathlib.Core.Path.{◌≡◌, refl, ap, sym, subst, ◌∙◌}
-use mathlib.Core.Bool.{Bool, true, false, cond}
+use mathlib.Core.Bool.{Bool, true, false}
 use mathlib.Core.List.{List}
 use Rattle.machine.specs.declared.Class.{Class}
 use Rattle.machine.specs.declared.Cpu.{Cpu}
@@ -12,7 +13,6 @@ use Rattle.machine.specs.declared.Opcode.{Opcode}
 use Rattle.machine.specs.declared.Text.{Text}
 use Rattle.machine.specs.Host.{Host, view}
 use Rattle.machine.specs.Outcomes.{Outcome, completed, intercepted, faulted, Progress}
-use Rattle.machine.specs.Interruptions.{exception}
 use Rattle.machine.specs.Execute.{execute}
 use Rattle.machine.specs.Units.{decoded, started, instruction}
 use Rattle.cpu.specs.declared.Before.{Before}
@@ -24,7 +24,7 @@ use Rattle.interruptions.specs.declared.Frames.{Frames}
 use Rattle.interruptions.specs.After.{event_of, storage_after, keys_after, Standing, Left}
 use Rattle.execute.proofs.Reaching.{not_both}
 use Rattle.text.specs.declared.Reading.{Reading}
-use Rattle.text.specs.Fetching.{FetchedAs}
+use Rattle.text.specs.Fetching.{after_fetch, FetchedAs}
 use Rattle.ahead.specs.Completing.{is_complete, performs, InHand, WordShut}
 use Rattle.ahead.proofs.Shut.{execute_completes}
 use Rattle.unit.specs.Foretelling.{Foretold, Comes}
@@ -84,11 +84,11 @@ module _ (shut : Bool) (h : Host) (g : Guest) (c : Cpu) (class : Class) (d : Don
 
 -- the fetch of the text is whole
 pub fetch_comes : (shut : Bool) (h : Host) (g : Guest) (clock : ℕ) (c : Cpu) {o : Outcome} (code : Opcode) (r : Reading) (d : Done) {storage keys : List ℕ}
-    → FetchedAs h g clock c o code r → r.failed ≡ false
+    → FetchedAs h g clock c o code r → r.failure ≡ None
     → ((x : Progress) → Standing h x g clock c r.text r.frames → Comes shut h g c (decoded x code) d storage keys) → Comes shut h g c o d storage keys
 fetch_comes shut h g clock c code r d fetched whole comes =
     let (x, standing, is) = fetched in
-    comes_along shut h g c d (is ∙ ap (λ b. cond b (exception x c r.failure) (decoded x code)) whole) (comes x standing)
+    comes_along shut h g c d (is ∙ ap (after_fetch x c code) whole) (comes x standing)
 
 -- the list before the unit comes to the instruction
 pub after_comes : (shut : Bool) (h : Host) (g : Guest) (clock : ℕ) (c : Cpu) (before : Before) (d : Done) {storage keys : List ℕ} → before ≡ Instruction

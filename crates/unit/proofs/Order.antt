@@ -1,8 +1,9 @@
 -- What does not complete a unit, in the order of its tests, while the interval timer's word cannot be stored into.
 -- Assumes nothing.
+use Rattle.std.specs.Prelude.{Some}
 use Prim.Native.Nat.{ℕ}
 use mathlib.Core.Path.{◌≡◌, refl, ap, ◌∙◌}
-use mathlib.Core.Bool.{true, false, cond}
+use mathlib.Core.Bool.{false}
 use Rattle.machine.specs.declared.Cpu.{Cpu}
 use Rattle.machine.specs.declared.Failure.{Failure}
 use Rattle.machine.specs.declared.Guest.{Guest}
@@ -11,7 +12,6 @@ use Rattle.machine.specs.declared.Reason.{Reason}
 use Rattle.machine.specs.declared.Text.{Text}
 use Rattle.machine.specs.Host.{Host, view}
 use Rattle.machine.specs.Outcomes.{Outcome, Progress}
-use Rattle.machine.specs.Interruptions.{exception}
 use Rattle.machine.specs.Execute.{intercept_instruction}
 use Rattle.machine.specs.Units.{decoded, started}
 use Rattle.cpu.specs.declared.Before.{Before}
@@ -20,7 +20,7 @@ use Rattle.cpu.specs.Before.{unit_after}
 use Rattle.interruptions.specs.declared.Frames.{Frames}
 use Rattle.interruptions.specs.After.{Standing}
 use Rattle.text.specs.declared.Reading.{Reading}
-use Rattle.text.specs.Fetching.{FetchedAs}
+use Rattle.text.specs.Fetching.{after_fetch, FetchedAs}
 use Rattle.ahead.specs.Completing.{is_complete, WordShut}
 use Rattle.ahead.proofs.Shut.{exception_incomplete}
 use Rattle.dispatch.specs.declared.Tests.{Tests}
@@ -39,11 +39,11 @@ module _ (g : Guest) (h : Host) {why : Failure} (shut : WordShut g h why) where
     intercepted_halts told = ap is_complete (tests ∙ ap (after_tests x o) told)
 
   -- the fetch of the text
-  pub fetch_halts : (clock : ℕ) (c : Cpu) {o : Outcome} (code : Opcode) (r : Reading) → FetchedAs h g clock c o code r → r.failed ≡ true → is_complete o ≡ false
-  fetch_halts clock c code r fetched failed =
+  pub fetch_halts : (clock : ℕ) (c : Cpu) {o : Outcome} (code : Opcode) (r : Reading) → FetchedAs h g clock c o code r → (f : Failure) → r.failure ≡ Some f → is_complete o ≡ false
+  fetch_halts clock c code r fetched f failed =
       let (x, standing, comes) = fetched in
-      ap is_complete (comes ∙ ap (λ b. cond b (exception x c r.failure) (decoded x code)) failed)
-      ∙ exception_incomplete g h shut x standing.of_guest standing.of_view c r.failure
+      ap is_complete (comes ∙ ap (after_fetch x c code) failed)
+      ∙ exception_incomplete g h shut x standing.of_guest standing.of_view c f
 
   -- the list before the unit
   module _ (clock : ℕ) (c : Cpu) (before : Before) where

@@ -17,10 +17,8 @@ ghost use Rattle.unit.specs.Foretelling.{Comes, Tells};
 
 use cpu::Before;
 use dispatch::Tests;
-use interruptions::{Done, Event, Frames};
+use interruptions::{Done, Event, Frames, SPECIFICATION};
 use machine::{Class, Cpu, Guest, Opcode, Text};
-
-const SPECIFICATION: u32 = 6;
 
 // No text: the instruction length code is 0.
 fn unfetched() -> Text
@@ -49,10 +47,7 @@ fn foretells(
     ensures { (shut ≡ false → result ≡ false) × (shut ≡ true → (x : Progress)
         → InHand (host designation storage.now keys.now) x guest cpu text → result ≡ performs class x) }
 {
-    if shut {
-        return ahead::performs(class, storage, keys, designation, guest, cpu, text);
-    }
-    false
+    shut && ahead::performs(class, storage, keys, designation, guest, cpu, text)
 }
 
 // An instruction whose tests are clear.
@@ -141,26 +136,23 @@ fn instruction(
         (instruction (started guest clock (view guest (host designation storage.old keys.old)) cpu 1)) result storage.new keys.new }
 {
     let fetched = text::fetch(storage, keys, designation, guest, cpu.psw, cpu.control);
-    let opcode = fetched.opcode;
-    let reading = fetched.reading;
-    let text = reading.text;
-    let t = reading.frames;
-    if reading.failed {
-        let f = reading.failure;
-        return execute::excepted(storage, keys, designation, guest, cpu, text, t, f);
+    let text = fetched.reading.text;
+    let t = fetched.reading.frames;
+    match fetched.reading.failure {
+        Some(f) => execute::excepted(storage, keys, designation, guest, cpu, text, t, f),
+        None => decoded(
+            storage,
+            keys,
+            designation,
+            guest,
+            clock,
+            shut,
+            cpu,
+            text,
+            t,
+            fetched.opcode,
+        ),
     }
-    decoded(
-        storage,
-        keys,
-        designation,
-        guest,
-        clock,
-        shut,
-        cpu,
-        text,
-        t,
-        opcode,
-    )
 }
 
 // A unit, by what the list before it comes to.
@@ -179,19 +171,14 @@ fn unit_after(
         (unit_after guest clock (view guest (host designation storage.old keys.old)) cpu before) result storage.new keys.new }
 {
     match before {
-        Before::Ends(reason) => interruptions::ended_with(
-            Event::Intercepted(reason),
-            interruptions::with_psw(cpu, cpu.psw),
-            cpu.psw,
-        ),
+        Before::Ends(reason) => Done {
+            event: Event::Intercepted(reason),
+            ..interruptions::with_psw(cpu, cpu.psw)
+        },
         Before::Malformed => {
             let f = address::exception_of(SPECIFICATION);
-            let none = Frames {
-                count: 0,
-                first: 0,
-                second: 0,
-            };
-            execute::excepted(storage, keys, designation, guest, cpu, unfetched(), none, f)
+            let t = Frames::None;
+            execute::excepted(storage, keys, designation, guest, cpu, unfetched(), t, f)
         }
         Before::Instruction => instruction(storage, keys, designation, guest, clock, shut, cpu),
     }

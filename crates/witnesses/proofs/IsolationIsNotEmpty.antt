@@ -7,7 +7,6 @@ use mathlib.Core.List.{List, [], ◌∷◌}
 use mathlib.Core.Logic.{◌≢◌, inr}
 use lib.ListN.{set, replicate, length-set, get_or-replicate}
 use lib.Seq.{sets, get_or-set_other}
-use Rattle.machine.specs.declared.Answer.TheVariants.{Ended}
 use Rattle.machine.specs.declared.End.TheVariants.{Intercepted}
 use Rattle.machine.specs.declared.Numbers.{Numbers}
 use Rattle.machine.specs.declared.Reason.TheVariants.{Instruction, Program}
@@ -27,11 +26,12 @@ use Rattle.machine.specs.Interruptions.{with_bytes, exception}
 use Rattle.machine.specs.Execute.{address_part, operand_address, indexed_address, finish, storing, store, intercept_instruction, execute}
 use Rattle.machine.specs.Units.{intercepts, misaligned, decoded, halfword, reading, fetch_third, fetch_second, instruction, unit}
 use Rattle.machine.specs.Run.{host_of, requested_by, unit_from, behind_of, after_unit, after_interception, answered, ticked, step_of, step, counted, onward, run}
-use Rattle.machine.specs.Answers.{results, end_results}
+use Rattle.machine.specs.Answers.{results, end_results, run_answer}
 use Rattle.machine.specs.Operations.{result_of, machine_of, run_as, run_of}
 use Rattle.machine.specs.Isolation.{RunFrame, AgreeButApart}
 use Rattle.machine.specs.IsolationIsNotEmpty.{AgreeingHostsExist, EntriesMustBeApart}
 use Rattle.machine.proofs.Laws.{get_d_sets_beside, SameBytes}
+use Rattle.machine.proofs.Runs.{same_end}
 use Rattle.witnesses.proofs.OneFrame.{OneFrame, entry-in_frame_t, guest_frame_is_0}
 
 -- A guest of one block from origin 0, with the PSW 00080000 80000008 and 1000 hex in general register 1. A program exception is code 8.
@@ -127,11 +127,11 @@ frame_0 = record {
 
 -- With the tables in frame 1 the store changes a byte of frame 0, and an unassigned opcode follows it. With the tables in frame 0 the
 -- guest's second instruction comes from frame 1: unassigned on the first host, DIAGNOSE on the second.
-answers : ((run_of (numbers 1) description (storage₁ 1) (keys₁ 1)).answer ≡ Ended (Intercepted (Program 1 1 0)) 1)
+answers : ((run_of (numbers 1) description (storage₁ 1) (keys₁ 1)).answer ≡ run_answer (Intercepted (Program 1 1 0)) 1)
     × (byte_at (run_of (numbers 1) description (storage₁ 1) (keys₁ 1)).storage 66 ≡ 0x10)
-    × ((run_of (numbers 0) description (storage₁ 0) (keys₁ 0)).answer ≡ Ended (Intercepted (Program 1 1 0)) 1)
+    × ((run_of (numbers 0) description (storage₁ 0) (keys₁ 0)).answer ≡ run_answer (Intercepted (Program 1 1 0)) 1)
     × ((run_of (numbers 0) description (storage₂ 0) (keys₂ 0)).answer
-    ≡ Ended (Intercepted (Instruction (record { ilc = 2; first = 0x8300; second = 0; third = 0 }))) 1)
+    ≡ run_answer (Intercepted (Instruction (record { ilc = 2; first = 0x8300; second = 0; third = 0 }))) 1)
 unfolding description numbers storage₁ keys₁ storage₂ keys₂ place run_of run_as run_verdict wrong_length wrong_version wrong_storage wrong_keys
     wrong_budget wrong_time used wrong_interval reserved_used word_at words_at words_bytes guest_of cpu_of psw_of with_cpu with_results entry_good
     mode_installed extent_fits prefix_fits prefix_short active requested_by ticked has result_of machine_of end_results results run onward step
@@ -182,5 +182,5 @@ entries_must_be_apart = (
   storage₂ 0,
   keys₂ 0,
   hosts_agree 0 (omega arith),
-  λ same. let z : ◌≡◌ {A = ℕ} 0 1 = cc (answers.2, answers.3) in omega arith,
+  λ same. let ends = same_end (sym answers.2 ∙ same ∙ answers.3) in let z : ◌≡◌ {A = ℕ} 0 1 = cc in omega arith,
 )

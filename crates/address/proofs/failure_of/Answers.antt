@@ -4,10 +4,10 @@ use Rattle.machine.proofs.Tests.{tests}
 use Rattle.address.specs.Locating.{failure_in}
 use Rattle.address.proofs.failure_of.Goals as goal
 
-pub returns-then-w-eq1 : goal.returns-then-w-eq1
+pub returns-then-host : goal.returns-then-host
 unfolding failure_in
-returns-then-w-eq1 c = search tests
+returns-then-host c = search tests
 
-pub returns : goal.returns
+pub returns-else-host : goal.returns-else-host
 unfolding failure_in walk_exception
-returns c = rw c.exception_address.ensures (search tests)
+returns-else-host c = rw c.exception_address-address.ensures (search tests)

@@ -15,7 +15,7 @@ returns-then-at-ge-STOPPED c = record {
       rw (
         c.without_segment.ensures.0,
         failed_page a _ c.if-at-ge-STOPPED.true,
-        entry-outside g c.args.designation c.args.storage.now k _ _ c.requires.1 (sees_bound _ g x c.requires.0 sees) (c.virtual_of-at.ensures g x sees) c.if-at-ge-STOPPED.true a,
+        entry-outside g c.args.designation c.args.storage.now k _ _ c.requires.0 (sees_bound _ g x sees) (c.virtual_of-at.ensures g x sees) c.if-at-ge-STOPPED.true a,
       );
 }
 
@@ -35,7 +35,7 @@ returns-then-page-ge-STOPPED c =
             c.without_segment-then-page-ge-STOPPED.ensures.0,
             c.faulted.ensures,
             failed_page a (fault_number v (p % 2 ^ 32)) (omega arith),
-            entry-stopped g c.args.designation c.args.storage.now k _ v c.requires.1 (sees_bound _ g x c.requires.0 sees) (c.virtual_of-at.ensures g x sees) c.if-at-ge-STOPPED.false p
+            entry-stopped g c.args.designation c.args.storage.now k _ v c.requires.0 (sees_bound _ g x sees) (c.virtual_of-at.ensures g x sees) c.if-at-ge-STOPPED.false p
                 (served_page _ _ _ _ _ _ c.segment_for-segment.ensures.0 c.segment_for-segment.ensures.1 c.page_for-page.ensures) c.if-page-ge-STOPPED.true a,
           );
     }
@@ -46,6 +46,6 @@ returns c =
     let v = c.virtual_of-at.result in record {
       serves = c.segment_for-segment.ensures.1;
       real_value = λ g x sees k a.
-          rw (entry_found g c.args.designation c.args.storage.now k _ v c.requires.1 (sees_bound _ g x c.requires.0 sees) (c.virtual_of-at.ensures g x sees) c.if-at-ge-STOPPED.false p
+          rw (entry_found g c.args.designation c.args.storage.now k _ v c.requires.0 (sees_bound _ g x sees) (c.virtual_of-at.ensures g x sees) c.if-at-ge-STOPPED.false p
           (served_page _ _ _ _ _ _ c.segment_for-segment.ensures.0 c.segment_for-segment.ensures.1 c.page_for-page.ensures) c.if-page-ge-STOPPED.false _ c.table_word.ensures) (c.by_page.ensures a);
     }

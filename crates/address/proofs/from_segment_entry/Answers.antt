@@ -7,7 +7,7 @@ use Rattle.storage.specs.Steps.{read_through, segment_leads}
 use Rattle.storage.proofs.Found.{served_page, found_code}
 use Rattle.address.specs.Locating.{fault_number}
 use Rattle.address.specs.Touching.{Aligned}
-use Rattle.address.proofs.Located.{failed_entry, good-entry, failed_page, sees_bound, entry-outside, entry-stopped, entry_found}
+use Rattle.address.proofs.Located.{failed_place, good-place, failed_page, sees_bound, entry-outside, entry-stopped, entry_found}
 use Rattle.address.proofs.Touches.{aligned_segment_leads}
 use Rattle.address.proofs.from_segment_entry.Goals as goal
 
@@ -20,7 +20,7 @@ returns-then-at-ge-STOPPED c =
           rw (
             c.without_segment.ensures.0,
             failed_page _ v c.if-at-ge-STOPPED.true,
-            entry-outside g c.args.designation c.args.storage.now k _ v c.requires.1 (sees_bound _ g x c.requires.0 sees) (c.virtual_of-at.ensures g x sees) c.if-at-ge-STOPPED.true c.args.a,
+            entry-outside g c.args.designation c.args.storage.now k _ v c.requires (sees_bound _ g x sees) (c.virtual_of-at.ensures g x sees) c.if-at-ge-STOPPED.true c.args.a,
           );
     }
 
@@ -42,7 +42,7 @@ returns-then-page-ge-STOPPED c =
             c.without_segment-then-page-ge-STOPPED.ensures.0,
             c.faulted.ensures,
             failed_page _ (fault_number v (p % 2 ^ 32)) (omega arith),
-            entry-stopped g c.args.designation c.args.storage.now k _ v c.requires.1 (sees_bound _ g x c.requires.0 sees) (c.virtual_of-at.ensures g x sees) c.if-at-ge-STOPPED.false p found c.if-page-ge-STOPPED.true c.args.a,
+            entry-stopped g c.args.designation c.args.storage.now k _ v c.requires (sees_bound _ g x sees) (c.virtual_of-at.ensures g x sees) c.if-at-ge-STOPPED.false p found c.if-page-ge-STOPPED.true c.args.a,
           );
     }
 
@@ -58,16 +58,16 @@ returns-then-next-ge-STOPPED c =
           rw (
             c.without_segment-then-next-ge-STOPPED.ensures.0,
             failed_page _ next.result c.if-next-ge-STOPPED.true,
-            entry_found g c.args.designation c.args.storage.now k _ v c.requires.1 (sees_bound _ g x c.requires.0 sees) (c.virtual_of-at.ensures g x sees) c.if-at-ge-STOPPED.false p found c.if-page-ge-STOPPED.false _ c.table_word.ensures,
+            entry_found g c.args.designation c.args.storage.now k _ v c.requires (sees_bound _ g x sees) (c.virtual_of-at.ensures g x sees) c.if-at-ge-STOPPED.false p found c.if-page-ge-STOPPED.false _ c.table_word.ensures,
             next.ensures,
-            failed_entry _ next.result c.if-next-ge-STOPPED.true,
+            failed_place _ next.result c.if-next-ge-STOPPED.true,
           );
     }
 
 pub from_page_entry-requires : goal.from_page_entry-requires
 from_page_entry-requires c =
     let next = c.by_segment-next in
-    (c.requires.0, subst Aligned (next.ensures ∙ good-entry _ _ c.if-next-ge-STOPPED.false) (aligned_segment_leads _ _ _), c.segment_for-segment.ensures.1)
+    (subst Aligned (next.ensures ∙ good-place _ _ c.if-next-ge-STOPPED.false) (aligned_segment_leads _ _ _), c.segment_for-segment.ensures.1)
 
 pub returns : goal.returns
 unfolding read_through
@@ -79,9 +79,9 @@ returns c =
       serves = c.from_page_entry.ensures.serves;
       real_value = λ g x sees k.
           rw (
-            entry_found g c.args.designation c.args.storage.now k _ v c.requires.1 (sees_bound _ g x c.requires.0 sees) (c.virtual_of-at.ensures g x sees) c.if-at-ge-STOPPED.false p found c.if-page-ge-STOPPED.false _ c.table_word.ensures,
+            entry_found g c.args.designation c.args.storage.now k _ v c.requires (sees_bound _ g x sees) (c.virtual_of-at.ensures g x sees) c.if-at-ge-STOPPED.false p found c.if-page-ge-STOPPED.false _ c.table_word.ensures,
             next.ensures,
-            good-entry _ next.result c.if-next-ge-STOPPED.false,
+            good-place _ next.result c.if-next-ge-STOPPED.false,
           )
           (c.from_page_entry.ensures.real_value g x sees k c.args.a);
     }

@@ -17,7 +17,7 @@ unfolding touched settled
 returns-then-at-ge-STOPPED c =
     let v = c.virtual_of-at.result in
     λ g x sees.
-    rw (good-page _ _ c.if-entry-ge-STOPPED.false, backing_keyless g c.args.designation c.args.storage.now c.args.keys.now, behind-outside g c.args.designation c.args.storage.now _ v (sees_bound _ g x c.requires.0 sees) (c.virtual_of-at.ensures g x sees) c.if-at-ge-STOPPED.true c.args.a, failed_place _ v c.if-at-ge-STOPPED.true)
+    rw (good-page _ _ c.if-entry-ge-STOPPED.false, backing_keyless g c.args.designation c.args.storage.now c.args.keys.now, behind-outside g c.args.designation c.args.storage.now _ v (sees_bound _ g x sees) (c.virtual_of-at.ensures g x sees) c.if-at-ge-STOPPED.true c.args.a, failed_place _ v c.if-at-ge-STOPPED.true)
 
 pub faulted-requires : goal.faulted-requires
 faulted-requires c = found_code c.args.designation c.args.storage.now _ _ (served_page _ _ _ _ _ _ c.segment_for-segment.ensures.0 c.segment_for-segment.ensures.1 c.page_for-page.ensures) c.if-page-ge-STOPPED.true
@@ -32,7 +32,7 @@ returns-then-page-ge-STOPPED c =
     rw (
       good-page _ _ c.if-entry-ge-STOPPED.false,
       backing_keyless g c.args.designation c.args.storage.now c.args.keys.now,
-      behind-stopped g c.args.designation c.args.storage.now _ v (sees_bound _ g x c.requires.0 sees) (c.virtual_of-at.ensures g x sees) c.if-at-ge-STOPPED.false p found c.if-page-ge-STOPPED.true c.args.a,
+      behind-stopped g c.args.designation c.args.storage.now _ v (sees_bound _ g x sees) (c.virtual_of-at.ensures g x sees) c.if-at-ge-STOPPED.false p found c.if-page-ge-STOPPED.true c.args.a,
       c.faulted.ensures,
       failed_place _ (fault_number v (p % 2 ^ 32)) (omega arith),
     )
@@ -50,6 +50,6 @@ returns c =
     rw (
       good-page _ _ c.if-entry-ge-STOPPED.false,
       backing_keyless g c.args.designation c.args.storage.now c.args.keys.now,
-      behind-found g c.args.designation c.args.storage.now _ v (sees_bound _ g x c.requires.0 sees) (c.virtual_of-at.ensures g x sees) c.if-at-ge-STOPPED.false p found c.if-page-ge-STOPPED.false,
+      behind-found g c.args.designation c.args.storage.now _ v (sees_bound _ g x sees) (c.virtual_of-at.ensures g x sees) c.if-at-ge-STOPPED.false p found c.if-page-ge-STOPPED.false,
     )
-    (c.settle.ensures g x _ c.args.a sees.key (behind_virtual g c.args.designation c.args.storage.now _ v (sees_bound _ g x c.requires.0 sees) (c.virtual_of-at.ensures g x sees) c.if-at-ge-STOPPED.false))
+    (c.settle.ensures g x _ c.args.a sees.key (behind_virtual g c.args.designation c.args.storage.now _ v (sees_bound _ g x sees) (c.virtual_of-at.ensures g x sees) c.if-at-ge-STOPPED.false))

@@ -9,7 +9,7 @@ use Rattle.storage.specs.Steps.{read_through, segment_leads}
 use Rattle.storage.proofs.Steps.{walk_in_steps}
 use Rattle.address.specs.Touching.{Aligned}
 use Rattle.address.specs.Locating.{failure_in, page_in}
-use Rattle.address.proofs.Located.{failed_entry, good-entry, failed_page, plain_page}
+use Rattle.address.proofs.Located.{failed_place, good-place, failed_page, plain_page}
 use Rattle.address.proofs.Touches.{aligned_table_leads}
 use Rattle.address.proofs.real_page.Goals as goal
 
@@ -32,11 +32,11 @@ returns-then-real-ge-STOPPED c =
     let next = c.by_table-real in record {
       serves = c.without_segment-then-real-ge-STOPPED.ensures.1 _ _;
       a_value = λ g x sees k.
-          rw (c.without_segment-then-real-ge-STOPPED.ensures.0, failed_page _ next.result c.if-real-ge-STOPPED.true, ← sees.dat, ← c.dat_on.ensures, c.if-not-dat_on.false, ← sees.cr0, eq-eqb _ _ c.if-space-ne22.false, walk_in_steps, ← sees.cr1, next.ensures, failed_entry _ next.result c.if-real-ge-STOPPED.true);
+          rw (c.without_segment-then-real-ge-STOPPED.ensures.0, failed_page _ next.result c.if-real-ge-STOPPED.true, ← sees.dat, ← c.dat_on.ensures, c.if-not-dat_on.false, ← sees.cr0, eq-eqb _ _ c.if-space-ne22.false, walk_in_steps, ← sees.cr1, next.ensures, failed_place _ next.result c.if-real-ge-STOPPED.true);
     }
 
 pub from_segment_entry-requires : goal.from_segment_entry-requires
-from_segment_entry-requires c = (c.requires, subst Aligned (c.by_table-real.ensures ∙ good-entry _ _ c.if-real-ge-STOPPED.false) (aligned_table_leads _ _ _))
+from_segment_entry-requires c = subst Aligned (c.by_table-real.ensures ∙ good-place _ _ c.if-real-ge-STOPPED.false) (aligned_table_leads _ _ _)
 
 pub returns : goal.returns
 unfolding real_page format_good read_through
@@ -44,5 +44,5 @@ returns c =
     let next = c.by_table-real in record {
       serves = c.from_segment_entry.ensures.serves;
       a_value = λ g x sees k.
-          rw (← sees.dat, ← c.dat_on.ensures, c.if-not-dat_on.false, ← sees.cr0, eq-eqb _ _ c.if-space-ne22.false, walk_in_steps, ← sees.cr1, next.ensures, good-entry _ next.result c.if-real-ge-STOPPED.false) (c.from_segment_entry.ensures.real_value g x sees k);
+          rw (← sees.dat, ← c.dat_on.ensures, c.if-not-dat_on.false, ← sees.cr0, eq-eqb _ _ c.if-space-ne22.false, walk_in_steps, ← sees.cr1, next.ensures, good-place _ next.result c.if-real-ge-STOPPED.false) (c.from_segment_entry.ensures.real_value g x sees k);
     }

@@ -1,7 +1,7 @@
 -- `ahead::reaches` meets its contract.
 use mathlib.Core.Path.{ap, sym, ◌∙◌}
 use Rattle.operands.proofs.Seen.{operand_seen}
-use Rattle.ahead.specs.Completing.{is_open}
+use Rattle.std.specs.Prelude.{is_ok}
 use Rattle.ahead.proofs.Reached.{open_reached, small_address}
 use Rattle.ahead.proofs.reaches.Goals as goal
 
@@ -13,6 +13,6 @@ pub returns : goal.returns
 returns c =
     let a = c.args in
     let (wrapped, some, few) = c.requires.a_value in
-    c.opens.ensures
-    ∙ ap is_open (c.find_operand-operand.ensures ∙ sym (operand_seen a.guest _ a.cpu a.store a.a a.n))
+    c.is_ok.ensures.value
+    ∙ ap is_ok (c.find_operand-operand.ensures ∙ sym (operand_seen a.guest _ a.cpu a.store a.a a.n))
     ∙ open_reached a.guest _ a.cpu a.store a.a a.n wrapped some few

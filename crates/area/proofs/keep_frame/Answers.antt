@@ -8,10 +8,10 @@ use Rattle.area.proofs.keep_frame.Goals as goal
 pub bounds-keys-frame : goal.bounds-keys-frame
 bounds-keys-frame c =
     let x = c.args in
-    (frame_small x.guest x.designation x.storage.now x.keys.now x.frame c.requires.3 c.requires.1).0
+    (frame_small x.guest x.designation x.storage.now x.keys.now x.frame c.requires.2 c.requires.1).0
 
-pub returns-then-key-ne3 : goal.returns-then-key-ne3
-returns-then-key-ne3 c =
+pub returns-then-keys-frame-ne3 : goal.returns-then-keys-frame-ne3
+returns-then-keys-frame-ne3 c =
     let x = c.args in
     let both = none_kept x.guest x.designation x.storage.now x.keys.now x.guard.now x.kept.now in record { tables = both.0; area = both.1 }
 
@@ -27,7 +27,7 @@ returns-then-guard-frame-ne0 c =
 pub overflow_mul-result : goal.overflow_mul-result
 overflow_mul-result c =
     let x = c.args in
-    let small = frame_small x.guest x.designation x.storage.now x.keys.now x.frame c.requires.3 c.requires.1 in
+    let small = frame_small x.guest x.designation x.storage.now x.keys.now x.frame c.requires.2 c.requires.1 in
     omega arith
 
 pub returns : goal.returns
@@ -36,5 +36,5 @@ returns c =
       tables = λ psw control.
           tables_dropped x.designation x.guest psw control x.storage.now x.keys.now x.guard.now _ x.kept.now _
           c.name_host.ensures.wider c.spare.ensures.0 c.spare.ensures.1;
-      area = area_found x.guest x.designation x.storage.now x.keys.now x.frame c.requires.3 _ c.name_host.ensures.by_index c.if-key-ne3.false c.if-guard-frame-ne0.false;
+      area = area_found x.guest x.designation x.storage.now x.keys.now x.frame c.requires.2 _ c.name_host.ensures.by_index c.if-keys-frame-ne3.false c.if-guard-frame-ne0.false;
     }

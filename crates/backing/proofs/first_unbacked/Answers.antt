@@ -1,38 +1,24 @@
--- `backing::first_unbacked` meets its contract. The loop's invariant: the pages passed are valid.
-use Prim.Native.Nat.{◌/◌}
+-- `backing::first_unbacked` meets its contract.
+use Prim.Native.Nat.{ℕ, ◌≤◌}
 use native.Mathlib.Omega.{arith}
-use mathlib.Core.Path.{◌≡◌}
 use borrow.Author.Rules.{rules}
-use Rattle.backing.proofs.Lowest.{found_there, all_passed, all_of_them}
+use Rattle.std.specs.Prelude.{Some, None}
+use Rattle.desk.specs.Reach.{page_valid}
+use Rattle.desk.proofs.Surveys.{AllPass}
+use Rattle.tables.proofs.Spanning.{found_over_spans}
+use Rattle.backing.specs.Lowest.{Lowest}
+use Rattle.backing.proofs.Lowest.{all_passed, found_there}
 use Rattle.backing.proofs.first_unbacked.Goals as goal
-
-pub loop-page-init : goal.loop-page-init
-loop-page-init c = (search rules, search rules, λ k low high. absurd (omega arith))
-
-pub table_at-t-requires : goal.table_at-t-requires
-table_at-t-requires c = c.segment_at.ensures.fits
-
-pub valid_pages-requires : goal.valid_pages-requires
-valid_pages-requires c = (c.table_at-t.ensures.1, search rules)
-
-pub returns-then-end-next : goal.returns-then-end-next
-returns-then-end-next c =
-    let loop = c.loop-page in
-    let end = c.segment_end-next.ensures in
-    let told = c.table_at-t.ensures.0 c.args.designation (loop.page / 256) c.segment_at.ensures in
-    found_there c.args.designation c.args.storage.now c.args.from loop.page _ c.args.to _ told end.0 end.1.1 end.1.0 loop.invariant.0 _ c.valid_pages.ensures loop.invariant.2 c.if-end-next.true
-
-pub loop-page-smaller : goal.loop-page-smaller
-loop-page-smaller c = omega arith
-
-pub loop-page-preserved : goal.loop-page-preserved
-loop-page-preserved c =
-    let loop = c.loop-page in
-    let end = c.segment_end-next.ensures in
-    let told = c.table_at-t.ensures.0 c.args.designation (loop.page / 256) c.segment_at.ensures in
-    (search rules, search rules, all_passed c.args.designation c.args.storage.now c.args.from loop.page _ c.args.to _ told end.0 end.1.1 end.1.0 loop.invariant.0 _ c.valid_pages.ensures loop.invariant.2 c.if-end-next.false)
 
 pub returns : goal.returns
 returns c =
-    let all : c.loop-page.page ≡ c.args.to = omega arith in
-    all_of_them _ _ _ c.requires.0 (rw all at c.loop-page.invariant.2)
+    let test = page_valid c.args.host.designation c.args.host.storage.now in
+    let from = c.args.pages.from in
+    let passed : ℕ → Type 0 = λ page. (from ≤ page) × AllPass test from page in
+    found_over_spans _ passed c.spans.result c.find_map.new.self _ c.find_map.result _ c.find_map.ensures.ran c.find_map.ensures.runs (λ x r q k. search rules)
+    (λ x k at. let h : Lowest test x.from x.to None = search rules in (omega (arith, x.some, at.0), all_passed test from x.from x.to h at.1))
+    (omega arith, λ k low high. absurd (omega arith))
+    (λ page past at none. rw none (λ q low high. at.1 q low (omega arith)))
+    (λ x page q inside at some k.
+    let h : Lowest test x.from x.to (Some page) = search rules in
+    rw some (found_there test from x.from x.to c.args.pages.to page at.0 (omega arith) at.1 h))

@@ -7,20 +7,20 @@ use Rattle.machine.specs.Interruptions.{fields_beside}
 use Rattle.interruptions.proofs.Words.{two_words}
 use Rattle.calls.proofs.put_fields.Goals as goal
 
-pub returns-then-basic_control : goal.returns-then-basic_control
+pub returns-in-Some : goal.returns-in-Some
 unfolding fields_beside
-returns-then-basic_control c = λ k same. rw (sym (c.basic_control.ensures k same) ∙ c.if-basic_control.true) refl
-
-pub returns-then-i : goal.returns-then-i
-unfolding fields_beside
-returns-then-i c =
+returns-in-Some c =
     let a = c.args in
     λ k same.
-    rw (sym (c.basic_control.ensures k same) ∙ c.if-basic_control.false, c.if-i.true)
-    (c.put-then-i.ensures ∙ ap (λ t. sets t (a.base + a.i.code + 4) (word_bytes a.i.address)) c.put.ensures
-    ∙ two_words a.storage.now (a.base + a.i.code) (word_bytes a.i.word) (word_bytes a.i.address) refl)
+    rw (sym (c.basic_control.ensures k same) ∙ c.if-not-basic_control.true, c.in-Some.is)
+    (c.put_word-in-Some.ensures ∙ ap (λ t. sets t (a.base + a.i.code + 4) (word_bytes c.in-Some.address)) c.put_word.ensures
+    ∙ two_words a.storage.now (a.base + a.i.code) (word_bytes a.i.word) (word_bytes c.in-Some.address) refl)
 
-pub returns-else-i : goal.returns-else-i
+pub returns-in_default : goal.returns-in_default
 unfolding fields_beside
-returns-else-i c =
-    λ k same. rw (sym (c.basic_control.ensures k same) ∙ c.if-basic_control.false, c.if-i.false) c.put.ensures
+returns-in_default c =
+    λ k same. rw (sym (c.basic_control.ensures k same) ∙ c.if-not-basic_control.true, c.in_default.is) c.put_word.ensures
+
+pub returns-else-not-basic_control : goal.returns-else-not-basic_control
+unfolding fields_beside
+returns-else-not-basic_control c = λ k same. rw (sym (c.basic_control.ensures k same) ∙ c.if-not-basic_control.false) refl

@@ -4,9 +4,6 @@ use Rattle.psws.specs.Psws.{state}
 use Rattle.calm.proofs.Listing.{formed_wrapped, calm_disabled, calm_silent}
 use Rattle.calm.proofs.horizon.Goals as goal
 
-pub returns-then-not-passes : goal.returns-then-not-passes
-returns-then-not-passes c = (omega arith, λ (some : 0 < 0). absurd (omega arith), λ cpu psw timer control j (less : j < 0). absurd (omega arith))
-
 pub returns-then-not-external_enabled : goal.returns-then-not-external_enabled
 returns-then-not-external_enabled c =
     let args = c.args in
@@ -19,8 +16,8 @@ returns-then-not-external_enabled c =
       λ cpu psw timer control. calm_disabled args.guest args.clock args.time args.requested cpu (rw psw left) (rw psw right) (rw psw passes) (rw psw off) args.most,
     )
 
-pub returns : goal.returns
-returns c =
+pub returns-else-not-external_enabled : goal.returns-else-not-external_enabled
+returns-else-not-external_enabled c =
     let args = c.args in
     let left : args.psw.left < 2 ^ 32 = omega arith in
     let right : args.psw.right < 2 ^ 32 = omega arith in

@@ -5,4 +5,4 @@ use Rattle.cases.proofs.Answers.{line_of_case}
 use Rattle.case.proofs.case_line.Goals as goal
 
 pub returns : goal.returns
-returns c = record { prefix_len = c.put_line.ensures.prefix_len; line_after = c.put_line.ensures.line_after ∙ ap packed_line c.run_case.ensures ∙ line_of_case _ _ }
+returns c = c.packed_line.ensures ∙ ap packed_line c.run_case.ensures ∙ line_of_case _ _

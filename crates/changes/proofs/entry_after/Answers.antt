@@ -1,28 +1,14 @@
--- `changes::entry_after` meets its contract.
+-- `changes::entry_after` meets its contract: a bit is set, and where it is set already nothing changes.
 use Rattle.std.proofs.Common.{arith}
-use Rattle.machine.proofs.Tests.{tests}
+use Rattle.std.proofs.lemmas.Bool.Decides.{nat_tests}
 use Rattle.desk.specs.Desk.{entry_after}
+use Rattle.changes.proofs.Bits.{or_bit}
 use Rattle.changes.proofs.entry_after.Goals as goal
 
-pub overflow_mul-result : goal.overflow_mul-result
-overflow_mul-result c = let small = rw c.in-Add.is at c.requires in omega arith
-
-pub returns-in-Add : goal.returns-in-Add
+pub returns-in-Remove : goal.returns-in-Remove
 unfolding entry_after
-returns-in-Add c = rw c.in-Add.is
+returns-in-Remove c = rw (c.in-Remove.is, or_bit c.args.entry 10) (grind (arith, nat_tests))
 
-pub returns-then-entry-eq1 : goal.returns-then-entry-eq1
+pub returns-in-Protect : goal.returns-in-Protect
 unfolding entry_after
-returns-then-entry-eq1 c = rw c.in-Remove.is (search tests)
-
-pub returns-else-entry-eq1 : goal.returns-else-entry-eq1
-unfolding entry_after
-returns-else-entry-eq1 c = rw c.in-Remove.is (search tests)
-
-pub returns-then-entry-eq1-2 : goal.returns-then-entry-eq1-2
-unfolding entry_after
-returns-then-entry-eq1-2 c = rw c.in-Protect.is (search tests)
-
-pub returns-else-entry-eq1-2 : goal.returns-else-entry-eq1-2
-unfolding entry_after
-returns-else-entry-eq1-2 c = rw c.in-Protect.is (search tests)
+returns-in-Protect c = rw (c.in-Protect.is, or_bit c.args.entry 9) (grind (arith, nat_tests))

@@ -1,28 +1,18 @@
 -- `charging::general_after` meets its contract.
 use native.Mathlib.Omega.{arith}
-use mathlib.Core.Path.{◌≡◌, refl, sym}
+use mathlib.Core.Path.{◌≡◌, sym, ◌∙◌, ap}
 use lib.ListN.{length, get_or}
 use lib.Seq.{set_out}
 use mir.Syntax.{w32}
 use mir.Val.{Fits}
-use Rattle.laws.proofs.Lens.{sixteen_set}
 use borrow.Author.Rules.{rules}
+use Rattle.interruptions.specs.After.{set_by}
 use Rattle.charging.proofs.general_after.Goals as goal
 
-pub returns-then-register-lt16 : goal.returns-then-register-lt16
-returns-then-register-lt16 c =
-    let words = c.args.general.words in (
-      refl,
-      sixteen_set words _ _ (record {
-        long = search rules;
-        small = λ i. let fits : Fits w32 (get_or words i 0) = search rules in fits.fits;
-      }) (search rules),
-    )
-
-pub returns : goal.returns
-returns c =
+pub returns-else-register-lt16 : goal.returns-else-register-lt16
+returns-else-register-lt16 c =
     let words = c.args.general.words in
     let sixteen : length words ≡ 16 = search rules in (
-      sym (set_out words c.args.register c.args.value (omega (arith, c.if-register-lt16.false))),
+      sym (ap (λ set. set_by set words) c.in-Some.is ∙ set_out words c.in-Some.register c.in-Some.value (omega (arith, c.if-register-lt16.false))),
       record { long = sixteen; small = λ i. let fits : Fits w32 (get_or words i 0) = search rules in fits.fits },
     )

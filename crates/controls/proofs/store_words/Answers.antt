@@ -1,29 +1,23 @@
--- `controls::store_words` meets its contract. The loop's invariant: with the registers that are left stored behind the first `k`, all
--- are stored; `at` is the first that is left.
-use Prim.Native.Nat.{◌-◌}
+-- `controls::store_words` meets its contract.
+use Prim.Native.Nat.{◌+◌, ◌-◌, ◌%◌}
 use native.Mathlib.Omega.{arith}
-use mathlib.Core.Path.{◌≡◌, refl, ap, sym, ◌∙◌}
+use mathlib.Core.Path.{◌≡◌, ap, sym, ◌∙◌}
 use lib.ListN.{get_or}
 use borrow.Author.Rules.{rules}
 use Rattle.machine.specs.Words.{words_bytes}
 use Rattle.machine.specs.Execute.{controls_from}
-use Rattle.writer.proofs.Parts.{sets_of_whole}
+use Rattle.words.proofs.Parts.{sets_of_whole}
 use Rattle.stores.proofs.Controls.{one_control_more, length_controls}
 use Rattle.controls.proofs.store_words.Goals as goal
 
-pub loop-k-init : goal.loop-k-init
-loop-k-init c =
-    let all : c.args.n - 0 ≡ c.args.n = omega arith in
-    (search rules, search rules, refl, λ k same. rw all)
-
 pub loop-k-preserved : goal.loop-k-preserved
-loop-k-preserved c = (
-  search rules,
-  search rules,
-  search rules,
-  λ k same. rw c.put_word.ensures (one_control_more c.loop-k.part k c.loop-k.at c.loop-k.k c.args.n _ (search rules) (ap (λ ws. get_or ws c.loop-k.at 0) (sym same))
-      ∙ c.loop-k.invariant.3 k same),
-)
+loop-k-preserved c =
+    let loop = c.loop-k in
+    let at = (c.args.i + loop.k) % 16 in
+    let on : (c.args.i + (loop.k + 1)) % 16 ≡ (at + 1) % 16 = omega arith in (
+      search rules,
+      λ k same. rw (on, c.put_word.ensures) (one_control_more loop.part k at loop.k c.args.n _ c.loop-k-test.true (ap (λ ws. get_or ws at 0) (sym same)) ∙ loop.invariant.1 k same),
+    )
 
 pub returns : goal.returns
 unfolding words_bytes controls_from
@@ -31,4 +25,4 @@ returns c =
     let n = c.args.n in
     let i = c.args.i in
     let none : n - c.loop-k.k ≡ 0 = omega (arith, c.loop-k-test.false) in
-    λ k same. (rw none at (c.loop-k.invariant.3 k same)) ∙ sets_of_whole c.args.part.now (words_bytes (controls_from k i n)) (c.requires.2 ∙ sym (length_controls k i n))
+    λ k same. (rw none at (c.loop-k.invariant.1 k same)) ∙ sets_of_whole c.args.part.now (words_bytes (controls_from k i n)) (c.requires.2 ∙ sym (length_controls k i n))

@@ -1,8 +1,10 @@
--- `cpu::advanced` meets its contract.
-use native.Mathlib.Nat.{div-one}
-use Rattle.machine.specs.Psw.{advanced}
+-- `cpu::advanced` meets its contract: an instruction address has 31 bits.
+use Rattle.std.proofs.Common.{[], refl, arith}
+use Rattle.std.proofs.lemmas.Bool.Decides.{nat_tests}
+use Rattle.machine.specs.declared.Cpu.{Cpu}
 use Rattle.cpu.proofs.advanced.Goals as goal
 
-pub returns-then-psw : goal.returns-then-psw
-unfolding advanced
-returns-then-psw c = λ cpu same. rw (c.with_address_370.ensures cpu same, same, c.if-psw.true, div-one)
+pub overflow_add-instruction_address : goal.overflow_add-instruction_address
+overflow_add-instruction_address c =
+    let k : Cpu = record { psw = c.args.psw; timer = 0; control = record { words = [] }; general = record { words = [] } } in
+    grind (arith, nat_tests, c.instruction_address.ensures k refl)

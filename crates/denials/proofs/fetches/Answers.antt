@@ -1,5 +1,6 @@
 -- `denials::fetches` meets its contract.
 use mathlib.Core.Path.{refl}
+use mathlib.Core.Logic.{⊎_elim}
 use mathlib.Core.Bool.{false}
 use Rattle.machine.specs.declared.Class.TheVariants.{L, Lpsw, Lctl, Spt}
 use Rattle.machine.specs.Execute.{operand_address, indexed_address}
@@ -17,23 +18,10 @@ returns-in-L c =
 pub returns-in-Lpsw : goal.returns-in-Lpsw
 returns-in-Lpsw c =
     let args = c.args in
-    λ yes. of_class args.psw args.general args.text args.a args.class Lpsw false operand_address c.operand_address.result
-    c.in-Lpsw.is yes c.operand_address.ensures
-    (reaching_lpsw args.psw args.general args.text args.a)
-
-pub returns-in-Lctl : goal.returns-in-Lctl
-returns-in-Lctl c =
-    let args = c.args in
-    λ yes. of_class args.psw args.general args.text args.a args.class Lctl false operand_address c.operand_address-in-Lctl.result
-    c.in-Lctl.is yes c.operand_address-in-Lctl.ensures
-    (reaching_lctl args.psw args.general args.text args.a)
-
-pub returns-in-Spt : goal.returns-in-Spt
-returns-in-Spt c =
-    let args = c.args in
-    λ yes. of_class args.psw args.general args.text args.a args.class Spt false operand_address c.operand_address-in-Spt.result
-    c.in-Spt.is yes c.operand_address-in-Spt.ensures
-    (reaching_spt args.psw args.general args.text args.a)
+    ⊎_elim (λ is yes. of_class args.psw args.general args.text args.a args.class Lpsw false operand_address c.operand_address.result is yes c.operand_address.ensures (reaching_lpsw args.psw args.general args.text args.a))
+    (⊎_elim (λ is yes. of_class args.psw args.general args.text args.a args.class Lctl false operand_address c.operand_address.result is yes c.operand_address.ensures (reaching_lctl args.psw args.general args.text args.a))
+    (λ is yes. of_class args.psw args.general args.text args.a args.class Spt false operand_address c.operand_address.result is yes c.operand_address.ensures (reaching_spt args.psw args.general args.text args.a)))
+    c.in-Lpsw.is
 
 pub returns-in_default : goal.returns-in_default
 returns-in_default c = λ yes. not_both yes refl

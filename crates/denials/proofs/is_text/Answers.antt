@@ -2,12 +2,7 @@
 use mathlib.Core.Path.{refl, ◌∙◌}
 use borrow.Author.Tests.{eqb-true}
 use Rattle.psws.specs.Psws.{state}
-use Rattle.execute.proofs.Reaching.{not_both}
 use Rattle.denials.proofs.is_text.Goals as goal
 
-pub returns-then-store : goal.returns-then-store
-returns-then-store c = λ yes. not_both yes refl
-
-pub returns : goal.returns
-returns c =
-    λ yes. (c.if-store.false, eqb-true _ _ yes ∙ c.instruction_address.ensures (state c.args.psw) refl)
+pub returns-then-not-store : goal.returns-then-not-store
+returns-then-not-store c = λ yes. (c.if-not-store.true, eqb-true _ _ yes ∙ c.instruction_address.ensures (state c.args.psw) refl)

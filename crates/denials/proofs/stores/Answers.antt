@@ -1,5 +1,6 @@
 -- `denials::stores` meets its contract.
 use mathlib.Core.Path.{refl}
+use mathlib.Core.Logic.{⊎_elim}
 use mathlib.Core.Bool.{true}
 use Rattle.machine.specs.declared.Class.TheVariants.{St, Stctl, Stck, Stpt}
 use Rattle.machine.specs.Execute.{operand_address, indexed_address}
@@ -17,23 +18,10 @@ returns-in-St c =
 pub returns-in-Stctl : goal.returns-in-Stctl
 returns-in-Stctl c =
     let args = c.args in
-    λ yes. of_class args.psw args.general args.text args.a args.class Stctl true operand_address c.operand_address.result
-    c.in-Stctl.is yes c.operand_address.ensures
-    (reaching_stctl args.psw args.general args.text args.a)
-
-pub returns-in-Stck : goal.returns-in-Stck
-returns-in-Stck c =
-    let args = c.args in
-    λ yes. of_class args.psw args.general args.text args.a args.class Stck true operand_address c.operand_address-in-Stck.result
-    c.in-Stck.is yes c.operand_address-in-Stck.ensures
-    (reaching_stck args.psw args.general args.text args.a)
-
-pub returns-in-Stpt : goal.returns-in-Stpt
-returns-in-Stpt c =
-    let args = c.args in
-    λ yes. of_class args.psw args.general args.text args.a args.class Stpt true operand_address c.operand_address-in-Stpt.result
-    c.in-Stpt.is yes c.operand_address-in-Stpt.ensures
-    (reaching_stpt args.psw args.general args.text args.a)
+    ⊎_elim (λ is yes. of_class args.psw args.general args.text args.a args.class Stctl true operand_address c.operand_address.result is yes c.operand_address.ensures (reaching_stctl args.psw args.general args.text args.a))
+    (⊎_elim (λ is yes. of_class args.psw args.general args.text args.a args.class Stck true operand_address c.operand_address.result is yes c.operand_address.ensures (reaching_stck args.psw args.general args.text args.a))
+    (λ is yes. of_class args.psw args.general args.text args.a args.class Stpt true operand_address c.operand_address.result is yes c.operand_address.ensures (reaching_stpt args.psw args.general args.text args.a)))
+    c.in-Stctl.is
 
 pub returns-in_default : goal.returns-in_default
 returns-in_default c = λ yes. not_both yes refl

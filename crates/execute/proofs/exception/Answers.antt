@@ -21,9 +21,8 @@ returns-then-intercepts_operation c =
     let a = c.args in
     λ x clock k standing before.
     excepted_operation (host a.designation _ _) x standing (left_by k a.after) a.f c.if-f.false
-    (sym c.intercepts_operation.ensures ∙ c.if-intercepts_operation.true) c.ended_with.result
-    (ap (λ d. d.event) c.ended_with.ensures)
-    (ap (left_by k) c.ended_with.ensures ∙ c.after_exception-psw.ensures x (left_by k a.after) a.f (ap (λ t. t.ilc) standing.of_text) refl refl)
+    (sym c.intercepts_operation.ensures ∙ c.if-intercepts_operation.true) _ refl
+    (c.after_exception-psw.ensures x (left_by k a.after) a.f (ap (λ t. t.ilc) standing.of_text) refl refl)
 
 pub returns-then-guest-eq1 : goal.returns-then-guest-eq1
 unfolding left_by with_psw
@@ -32,8 +31,8 @@ returns-then-guest-eq1 c =
     λ x clock k standing before.
     excepted_program (host a.designation _ _) x standing (left_by k a.after) a.f c.if-f.false
     (sym c.intercepts_operation.ensures ∙ c.if-intercepts_operation.false) (eq-eqb _ 1 c.if-guest-eq1.true)
-    c.ended_with-then-guest-eq1.result (ap (λ d. d.event) c.ended_with-then-guest-eq1.ensures)
-    (ap (left_by k) c.ended_with-then-guest-eq1.ensures ∙ c.after_exception-psw.ensures x (left_by k a.after) a.f (ap (λ t. t.ilc) standing.of_text) refl refl)
+    _ refl
+    (c.after_exception-psw.ensures x (left_by k a.after) a.f (ap (λ t. t.ilc) standing.of_text) refl refl)
 
 pub returns : goal.returns
 unfolding left_by with_psw
@@ -49,5 +48,5 @@ returns c =
     (c.after_exception-psw.ensures x (left_by k a.after) a.f told refl refl)
     i.1 i.4 (i.2 x told)
     (left_taken (host a.designation _ _) a.guest k to _ c.take-took.result c.interrupted.result
-    (c.take-took.ensures a.guest refl refl refl x clock k to a.text standing refl i.3) c.interrupted.ensures.0
+    (c.take-took.ensures x clock k to a.text standing refl i.3) c.interrupted.ensures.0
     (c.interrupted.ensures.1 k before ∙ old_replaced k (left_by k a.after) psw c.take-took.result))

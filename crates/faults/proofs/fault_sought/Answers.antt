@@ -7,6 +7,6 @@ pub returns-then-f-eq-PROTECTION : goal.returns-then-f-eq-PROTECTION
 unfolding fault_sought
 returns-then-f-eq-PROTECTION c = rw c.nowhere.ensures (search tests)
 
-pub returns : goal.returns
+pub returns-else-f-eq-PROTECTION : goal.returns-else-f-eq-PROTECTION
 unfolding fault_sought
-returns c = rw c.host_sought.ensures (search tests)
+returns-else-f-eq-PROTECTION c = rw c.host_sought.ensures (search tests)

@@ -1,6 +1,6 @@
 -- `guard::name_tables` meets its contract.
+use Rattle.std.specs.Prelude.{Err}
 use mathlib.Core.Path.{refl, sym, ap, ◌∙◌}
-use Rattle.machine.specs.declared.Walk.TheVariants.{Failed}
 use borrow.Author.Tests.{eq-eqb, ne_eqb}
 use Rattle.machine.specs.Addresses.{format_good}
 use Rattle.address.specs.Touching.{seen}
@@ -22,14 +22,14 @@ returns-then-cr0-ne22 c =
     (sym (c.dat_on.ensures x refl) ∙ c.if-not-dat_on.false)
     (ne_eqb _ _ c.if-cr0-ne22.true)
     in
-    record { wider = λ frame named. named; by_index = found.0; by_index_2 = λ k. ap Failed c.exception_of.ensures ∙ found.1 k }
+    record { wider = λ frame named. named; by_index = found.0; by_index_2 = λ k. ap Err c.exception_of.ensures ∙ found.1 k }
 
 pub name_through-segment-requires : goal.name_through-segment-requires
-name_through-segment-requires c = (c.requires.0, c.requires.1, rw c.table_leads.ensures (aligned_table_leads _ _ _))
+name_through-segment-requires c = (c.requires, rw c.table_leads.ensures (aligned_table_leads _ _ _))
 
 pub name_through-page-requires : goal.name_through-page-requires
 name_through-page-requires c =
-    (c.guard-1.given ∙ c.requires.0, c.requires.1, rw c.segment_leads.ensures (aligned_segment_leads _ _ _))
+    (c.requires, rw c.segment_leads.ensures (aligned_segment_leads _ _ _))
 
 pub returns : goal.returns
 unfolding format_good

@@ -7,6 +7,6 @@ pub returns-then-w-lt-STOPPED : goal.returns-then-w-lt-STOPPED
 unfolding page_in
 returns-then-w-lt-STOPPED c = search tests
 
-pub returns : goal.returns
+pub returns-else-w-lt-STOPPED : goal.returns-else-w-lt-STOPPED
 unfolding page_in
-returns c = rw c.failure_of.ensures (search tests)
+returns-else-w-lt-STOPPED c = rw c.failure_of.ensures (search tests)

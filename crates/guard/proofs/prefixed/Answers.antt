@@ -11,6 +11,6 @@ pub returns-then-a-guest : goal.returns-then-a-guest
 unfolding prefixed
 returns-then-a-guest c = search tests
 
-pub returns : goal.returns
+pub returns-else-a-guest : goal.returns-else-a-guest
 unfolding prefixed
-returns c = search tests
+returns-else-a-guest c = search tests

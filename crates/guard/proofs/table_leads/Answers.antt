@@ -3,4 +3,4 @@ use mathlib.Core.Path.{sym}
 use Rattle.guard.proofs.table_leads.Goals as goal
 
 pub returns : goal.returns
-returns c = rw c.entry_of.ensures (sym c.by_table.ensures)
+returns c = rw c.place_of.ensures (sym c.by_table.ensures)

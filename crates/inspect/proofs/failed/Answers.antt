@@ -7,4 +7,4 @@ pub returns : goal.returns
 unfolding answered
 returns c =
     λ g x sees k store found.
-    rw (failed_place c.args.a c.args.w c.requires.1, c.failure_of.ensures, c.sought.ensures g x sees k store found)
+    rw (failed_place c.args.a c.args.w c.requires, c.failure_of.ensures, c.sought.ensures g x sees k store found)

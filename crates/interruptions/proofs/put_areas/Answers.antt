@@ -15,23 +15,23 @@ returns-then-basic_control c =
     let a = c.args in
     λ k same.
     rw (sym (c.basic_control.ensures k same) ∙ c.if-basic_control.true)
-    (c.put_psw.ensures ∙ ap (λ p. sets a.part.now a.old (psw_bytes p)) (c.old_psw-coded.ensures k same))
+    (c.put_psw.ensures ∙ ap (λ p. sets a.part.now a.i.old (psw_bytes p)) (c.old_psw-coded.ensures k same))
 
-pub returns-then-long : goal.returns-then-long
+pub returns-in-Some : goal.returns-in-Some
 unfolding fields_beside old_psw
-returns-then-long c =
+returns-in-Some c =
     let a = c.args in
     λ k same.
-    rw (sym (c.basic_control.ensures k same) ∙ c.if-basic_control.false, same, c.if-long.true)
-    (c.put_word-then-long.ensures
-    ∙ ap (λ t. sets t (a.code + 4) (word_bytes a.address))
-    (c.put_word.ensures ∙ ap (λ t. sets t a.code (word_bytes a.word)) c.put_psw-2.ensures)
-    ∙ two_words (sets a.part.now a.old (psw_bytes a.psw)) a.code (word_bytes a.word) (word_bytes a.address) refl)
+    rw (sym (c.basic_control.ensures k same) ∙ c.if-basic_control.false, same, c.in-Some.is)
+    (c.put_word-in-Some.ensures
+    ∙ ap (λ t. sets t (a.i.code + 4) (word_bytes c.in-Some.address))
+    (c.put_word.ensures ∙ ap (λ t. sets t a.i.code (word_bytes a.i.word)) c.put_psw-2.ensures)
+    ∙ two_words (sets a.part.now a.i.old (psw_bytes a.psw)) a.i.code (word_bytes a.i.word) (word_bytes c.in-Some.address) refl)
 
-pub returns-else-long : goal.returns-else-long
+pub returns-in_default : goal.returns-in_default
 unfolding fields_beside old_psw
-returns-else-long c =
+returns-in_default c =
     let a = c.args in
     λ k same.
-    rw (sym (c.basic_control.ensures k same) ∙ c.if-basic_control.false, same, c.if-long.false)
-    (c.put_word.ensures ∙ ap (λ t. sets t a.code (word_bytes a.word)) c.put_psw-2.ensures)
+    rw (sym (c.basic_control.ensures k same) ∙ c.if-basic_control.false, same, c.in_default.is)
+    (c.put_word.ensures ∙ ap (λ t. sets t a.i.code (word_bytes a.i.word)) c.put_psw-2.ensures)

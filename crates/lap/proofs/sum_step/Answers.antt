@@ -4,7 +4,7 @@ use mathlib.Core.Bool.{and-false}
 use Rattle.sums.specs.Summing.{outside}
 use Rattle.lap.specs.Stepping.{sum_step}
 use Rattle.lap.proofs.sum_step.Goals as goal
-use Rattle.lap.proofs.sum_step.Goals.{then-trap+else-is_outside, else-trap}
+use Rattle.lap.proofs.sum_step.Goals.{else-trap-via-then-trap+else-is_outside, else-trap-via-else-trap}
 
 pub returns-then-is_outside : goal.returns-then-is_outside
 unfolding sum_step
@@ -15,8 +15,8 @@ unfolding sum_step
 returns c =
     let a = c.args in
     let passes : (a.trap && outside a.sum) ≡ false =
-    elim c.if-trap.branch [
-      | then-trap+else-is_outside w ↦ ap (λ b. a.trap && b) (sym w.is_outside.ensures ∙ w.if-is_outside.false) ∙ and-false a.trap
-      | else-trap w ↦ ap (λ b. b && outside a.sum) w.if-trap.false
+    elim c.else-trap.branch [
+      | else-trap-via-then-trap+else-is_outside w ↦ ap (λ b. a.trap && b) (sym w.is_outside.ensures ∙ w.if-is_outside.false) ∙ and-false a.trap
+      | else-trap-via-else-trap w ↦ ap (λ b. b && outside a.sum) w.if-trap.false
     ] in
     rw (passes, ← c.word_of.ensures) c.stepped.ensures

@@ -1,15 +1,17 @@
 -- `limits::framed` meets its contract: storage of whole frames, one for each key, is not refused.
+use borrow.Author.Tests.{leb-true, eqb-true, eqb-false, not-true}
+use mathlib.Core.Path.{sym, ◌∙◌}
 use native.Mathlib.Omega.{arith}
-use borrow.Author.Tests.{eqb-false, not-true}
-use mathlib.Core.Bool.{false≢true}
 use Rattle.limits.proofs.Parts.{storage_framed}
 use Rattle.limits.proofs.framed.Goals as goal
-
-pub returns-then-keys-gt-MOST_FRAMES : goal.returns-then-keys-gt-MOST_FRAMES
-returns-then-keys-gt-MOST_FRAMES c = λ e. absurd (false≢true e)
+use Rattle.limits.proofs.framed.Goals.{then-keys-le-MOST_FRAMES, else-keys-le-MOST_FRAMES}
 
 pub returns-then-storage-keys : goal.returns-then-storage-keys
-returns-then-storage-keys c = λ e. absurd (false≢true e)
-
-pub returns : goal.returns
-returns c = λ some. storage_framed _ _ c.if-keys-gt-MOST_FRAMES.false (omega (arith, c.if-storage-keys.false)) (eqb-false _ 0 (not-true _ some))
+returns-then-storage-keys c some =
+    elim c.if-keys-le-MOST_FRAMES.branch [
+      | then-keys-le-MOST_FRAMES w ↦
+          storage_framed _ _ w.if-keys-le-MOST_FRAMES.true
+          (eqb-true _ _ (sym w.value-is ∙ c.if-storage-keys.true))
+          (eqb-false _ 0 (not-true _ some))
+      | else-keys-le-MOST_FRAMES w ↦ let few = leb-true _ _ (sym w.value-is ∙ c.if-storage-keys.true) in absurd (omega (arith, w.if-keys-le-MOST_FRAMES.false))
+    ]

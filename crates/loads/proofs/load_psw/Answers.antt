@@ -1,31 +1,26 @@
 -- `loads::load_psw` meets its contract.
 use native.Mathlib.Omega.{arith}
-use mathlib.Core.Path.{refl}
+use mathlib.Core.Path.{refl, ap, ◌∙◌}
 use Rattle.machine.specs.Host.{host}
 use Rattle.machine.specs.Execute.{load_psw}
-use Rattle.loads.proofs.Fetching.{opened, psw_loaded, fetch_shut, fetch_open}
+use Rattle.machine.specs.Record.{psw_of}
+use Rattle.loads.proofs.Fetching.{psw_loaded, fetch_shut, fetch_open}
 use Rattle.loads.proofs.load_psw.Goals as goal
 
-pub reach-o-requires : goal.reach-o-requires
-reach-o-requires c =
+pub reach-requires : goal.reach-requires
+reach-requires c =
     record { ready = c.requires; a_value = (c.operand_address-a.ensures.0 c.args.cpu refl, omega arith, omega arith) }
 
-pub returns-then-o : goal.returns-then-o
+pub returns-in-Err : goal.returns-in-Err
 unfolding load_psw
-returns-then-o c =
+returns-in-Err c =
     λ clock x standing.
     fetch_shut (host c.args.designation _ _) x standing c.operand_address-a.ensures (omega arith) (omega arith) refl
-    c.reach-o.result _ _ _ (c.reach-o.ensures.reaches x clock standing) c.if-o.true
-
-pub operand_psw-psw-requires : goal.operand_psw-psw-requires
-operand_psw-psw-requires c =
-    let inside = opened c.reach-o.ensures.within c.if-o.false in
-    record { count_bound = inside.0; count_in_bounds = inside.1.0; count_in_bounds_2 = inside.1.1 }
+    _ _ _ c.in-Err.done (c.in-Err.ensures.reaches x clock standing)
 
 pub returns : goal.returns
 unfolding load_psw
 returns c =
     λ clock x standing.
     fetch_open (host c.args.designation _ _) x standing c.operand_address-a.ensures (omega arith) (omega arith) refl
-    c.reach-o.result _ _ _ (c.reach-o.ensures.reaches x clock standing) c.if-o.false c.with_psw.result
-    c.with_psw.ensures.0 (psw_loaded _ x standing _ _ _ c.with_psw.ensures.1 c.operand_psw-psw.ensures)
+    _ _ _ c.with_psw.result c.in-Ok.o (c.in-Ok.ensures.reaches x clock standing) c.with_psw.ensures.0 (psw_loaded _ x standing _ _ _ c.with_psw.ensures.1 (c.psw_at-psw.ensures ∙ ap (λ bytes. psw_of c.args.cpu.psw.system370 bytes 0) c.operand-bytes.ensures))

@@ -2,10 +2,10 @@
 use Rattle.packing.specs.Packing.{packed_answer}
 use Rattle.packing.proofs.pack_answer.Goals as goal
 
-pub returns-in-Refused : goal.returns-in-Refused
+pub returns-in-Err : goal.returns-in-Err
 unfolding packed_answer
-returns-in-Refused c = rw c.in-Refused.is c.pack.ensures
+returns-in-Err c = rw c.in-Err.is c.pack_refusal.ensures
 
-pub returns-in-Ended : goal.returns-in-Ended
+pub returns-in-Ok : goal.returns-in-Ok
 unfolding packed_answer
-returns-in-Ended c = rw c.in-Ended.is c.pack_end.ensures
+returns-in-Ok c = rw c.in-Ok.is c.pack_end.ensures

@@ -1,20 +1,13 @@
 -- `pages::has_marks` meets its contract.
-use Prim.Native.Nat.{ℕ, ◌/◌, ◌%◌}
-use native.Mathlib.Omega.{arith}
-use mathlib.Core.Path.{◌≡◌}
-use borrow.Author.Tests.{eq-eqb, eqb-true}
+use mathlib.Core.Bool.{false≢true}
+use borrow.Author.Tests.{eq-eqb}
 use Rattle.machine.specs.Host.{referenced, changed}
 use Rattle.pages.proofs.has_marks.Goals as goal
 
-pub returns-then-key-ne1 : goal.returns-then-key-ne1
-returns-then-key-ne1 c = λ no. let z : ◌≡◌ {A = ℕ} 0 1 = cc in absurd (omega arith)
-
-pub returns-then-store : goal.returns-then-store
+pub returns-then-not-store : goal.returns-then-not-store
 unfolding referenced changed
-returns-then-store c = λ e.
-    let stored : c.args.key / 2 % 2 ≡ 1 = omega (arith, eqb-true) in
-    (rw (eq-eqb _ _ c.if-key-ne1.false), λ _. rw (eq-eqb _ _ stored))
+returns-then-not-store c = λ _. (rw (eq-eqb _ _ c.if-key-eq1.true), λ stored. absurd (false≢true (rw (← c.if-not-store.true, stored))))
 
-pub returns : goal.returns
+pub returns-else-not-store : goal.returns-else-not-store
 unfolding referenced changed
-returns c = λ _. (rw (eq-eqb _ _ c.if-key-ne1.false), λ is. let z : ◌≡◌ {A = ℕ} 0 1 = cc in absurd (omega arith))
+returns-else-not-store c = λ marked. (rw (eq-eqb _ _ c.if-key-eq1.true), λ _. rw marked)

@@ -1,16 +1,30 @@
 -- `paging::first_unbacked` meets its contract.
 use mathlib.Core.Path.{refl, sym, ◌∙◌}
+use Rattle.std.proofs.lemmas.Result.{err_from_is_err_and}
 use Rattle.desk.specs.Unbacked.{unbacked_as, unbacked_of}
-use Rattle.paging.proofs.Accepting.{desk_verdict_lem}
+use Rattle.paging.proofs.Accepting.{desk_verdict_lem, accepted-long, accepted_version, entered-low}
 use Rattle.paging.proofs.first_unbacked.Goals as goal
 
-pub unbacked_accepted-requires : goal.unbacked_accepted-requires
-unbacked_accepted-requires c = (_, desk_verdict_lem _ _ c.args.keys.now ∙ sym c.desk_verdict.ensures ∙ c.in-Accepted.is)
-
-pub returns-in-Refused : goal.returns-in-Refused
+pub returns-in_err-desk_verdict : goal.returns-in_err-desk_verdict
 unfolding unbacked_of unbacked_as
-returns-in-Refused c = rw (desk_verdict_lem, ← c.desk_verdict.ensures, c.in-Refused.is) refl
+returns-in_err-desk_verdict c =
+    let p = err_from_is_err_and c.from_residual.result c.from_residual.ensures.1 in
+    rw (p.1, p.2) (rw (desk_verdict_lem, ← c.desk_verdict.ensures, c.in_err-desk_verdict.was) refl)
 
-pub returns-in-Accepted : goal.returns-in-Accepted
-unfolding unbacked_of
-returns-in-Accepted c = rw (desk_verdict_lem, ← c.desk_verdict.ensures, c.in-Accepted.is) c.unbacked_accepted.ensures
+pub guest_of-guest-requires : goal.guest_of-guest-requires
+guest_of-guest-requires c = accepted-long _ _ c.args.keys.now (desk_verdict_lem _ _ _ ∙ sym c.desk_verdict.ensures ∙ c.in_ok-desk_verdict.was)
+
+pub entry_good-requires : goal.entry_good-requires
+entry_good-requires c =
+    rw c.guest_of-guest.ensures (accepted_version _ _ c.args.keys.now (desk_verdict_lem _ _ _ ∙ sym c.desk_verdict.ensures ∙ c.in_ok-desk_verdict.was))
+
+pub returns-then-not-entry_good : goal.returns-then-not-entry_good
+unfolding unbacked_of unbacked_as
+returns-then-not-entry_good c = rw (desk_verdict_lem, ← c.desk_verdict.ensures, c.in_ok-desk_verdict.was, ← c.guest_of-guest.ensures, ← c.entry_good.ensures, c.if-not-entry_good.true) refl
+
+pub unbacked_for-requires : goal.unbacked_for-requires
+unbacked_for-requires c = entered-low _ (sym c.entry_good.ensures ∙ c.if-not-entry_good.false)
+
+pub returns : goal.returns
+unfolding unbacked_of unbacked_as
+returns c = rw (desk_verdict_lem, ← c.desk_verdict.ensures, c.in_ok-desk_verdict.was, ← c.guest_of-guest.ensures, ← c.entry_good.ensures, c.if-not-entry_good.false) c.unbacked_for.ensures

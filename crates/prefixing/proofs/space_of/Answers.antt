@@ -5,7 +5,6 @@ use Rattle.prefixing.proofs.space_of.Goals as goal
 
 pub returns : goal.returns
 returns c = (
-  search rules,
   refl,
   λ x psw cr0 cr1. record {
     origin = search rules;

@@ -28,9 +28,9 @@ returns-then-absolute-space c =
     let below : c.args.real < extent_bytes g = omega arith in
     rw (ne_eqb (c.args.real / 4096) 0 c.if-real-eq0.false, ne_eqb (c.args.real / 4096) g.prefix (λ own. c.if-real-space.false (omega arith)), lt-ltb _ _ below) (omega arith)
 
-pub returns : goal.returns
+pub returns-else-absolute-space : goal.returns-else-absolute-space
 unfolding virtual_in prefixed
-returns c =
+returns-else-absolute-space c =
     λ g x sees.
     let past : extent_bytes g ≤ c.args.real = omega arith in
     rw (ne_eqb (c.args.real / 4096) 0 c.if-real-eq0.false, ne_eqb (c.args.real / 4096) g.prefix (λ own. c.if-real-space.false (omega arith)), le-ltb _ _ past) c.excepted.ensures

@@ -1,40 +1,21 @@
--- `refusals::reserved_verdict` meets its contract. Refusal 7 by the tests that led to each return.
-use Prim.Native.Nat.{◌+◌}
-use native.Mathlib.Omega.{arith}
-use mathlib.Core.Path.{sym, ◌∙◌}
-use borrow.Author.Tests.{eq-eqb, ne_eqb}
-use Rattle.machine.specs.Words.{word_at, half_at}
-use Rattle.machine.proofs.Laws.{good_length}
-use Rattle.machine.proofs.Verdicts.{reserved_by_words}
-use Rattle.refusals.proofs.Parts.{reserved_used_lem, reserved_rest, reserved_none}
+-- `refusals::reserved_verdict` meets its contract. Each exit of a `?` is the part of the verdict that refuses.
+use mathlib.Core.Path.{refl, sym}
+use Rattle.std.proofs.lemmas.Result.{err_from_is_err_and}
+use Rattle.refusals.specs.Parts.{first_refusal}
+use Rattle.refusals.proofs.Parts.{reserved_parts, interval_none}
 use Rattle.refusals.proofs.reserved_verdict.Goals as goal
 
-pub word_at-requires : goal.word_at-requires
-word_at-requires c = omega (arith, good_length c.args.r.now c.requires)
-
-pub returns-then-word_at-ne0 : goal.returns-then-word_at-ne0
-returns-then-word_at-ne0 c =
-    let r = c.args.r.now in
-    let some = c.if-word_at-ne0.true in
-    sym (reserved_used_lem r (rw (reserved_by_words r, ne_eqb (word_at r 66 + half_at r 70) 0 (λ none. some (omega (arith, c.word_at.ensures, none))))))
-
-pub half_at-requires : goal.half_at-requires
-half_at-requires c = omega (arith, good_length c.args.r.now c.requires)
-
-pub returns-then-half_at-ne0 : goal.returns-then-half_at-ne0
-returns-then-half_at-ne0 c =
-    let r = c.args.r.now in
-    let some = c.if-half_at-ne0.true in
-    sym (reserved_used_lem r (rw (reserved_by_words r, ne_eqb (word_at r 66 + half_at r 70) 0 (λ none. some (omega (arith, c.half_at.ensures.0, none))))))
+pub returns-in_err-bytes_verdict : goal.returns-in_err-bytes_verdict
+unfolding first_refusal
+returns-in_err-bytes_verdict c =
+    let p = err_from_is_err_and c.from_residual.result c.from_residual.ensures.1 in
+    rw (p.1, p.2) (rw (← reserved_parts _, ← c.bytes_verdict.ensures, c.in_err-bytes_verdict.was) refl)
 
 pub returns-then-r-eq-LONG_RECORD : goal.returns-then-r-eq-LONG_RECORD
-returns-then-r-eq-LONG_RECORD c =
-    let r = c.args.r.now in
-    let none = eq-eqb (word_at r 66 + half_at r 70) 0 (omega (arith, c.word_at.ensures, c.if-word_at-ne0.false, c.half_at.ensures.0, c.if-half_at-ne0.false)) in
-    c.interval_verdict.ensures ∙ sym (reserved_rest r (rw (reserved_by_words r, none)))
+unfolding first_refusal
+returns-then-r-eq-LONG_RECORD c = rw (← reserved_parts _, ← c.bytes_verdict.ensures, c.in_ok-bytes_verdict.was) c.interval_verdict.ensures
 
 pub returns : goal.returns
+unfolding first_refusal
 returns c =
-    let r = c.args.r.now in
-    let none = eq-eqb (word_at r 66 + half_at r 70) 0 (omega (arith, c.word_at.ensures, c.if-word_at-ne0.false, c.half_at.ensures.0, c.if-half_at-ne0.false)) in
-    sym (reserved_none r (rw (reserved_by_words r, none)) c.if-r-eq-LONG_RECORD.false)
+    rw (← reserved_parts _, ← c.bytes_verdict.ensures, c.in_ok-bytes_verdict.was) (sym (interval_none _ c.if-r-eq-LONG_RECORD.false))

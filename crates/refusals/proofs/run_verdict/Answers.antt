@@ -1,11 +1,31 @@
--- `refusals::run_verdict` meets its contract. The parts' verdicts make the verdict of run.
-use mathlib.Core.Path.{sym, ◌∙◌}
-use Rattle.refusals.proofs.Parts.{accepted_head, first_accepted, run_parts}
+-- `refusals::run_verdict` meets its contract. Each exit of a `?` is the part of the verdict that refuses.
+use mathlib.Core.Path.{refl, sym, ◌∙◌}
+use Rattle.std.proofs.lemmas.Result.{err_from_is_err_and}
+use Rattle.refusals.specs.Parts.{first_refusal}
+use Rattle.refusals.proofs.Parts.{accepted_head, run_parts}
 use Rattle.refusals.proofs.run_verdict.Goals as goal
 
-pub reserved_after-requires : goal.reserved_after-requires
-reserved_after-requires c =
-    λ accepted. accepted_head _ (sym c.head_verdict.ensures ∙ first_accepted _ _ (sym c.first_refusal.ensures ∙ accepted))
+pub reserved_verdict-requires : goal.reserved_verdict-requires
+reserved_verdict-requires c = accepted_head _ (sym c.head_verdict.ensures ∙ c.in_ok-head_verdict.was)
+
+pub returns-in_err-head_verdict : goal.returns-in_err-head_verdict
+unfolding first_refusal
+returns-in_err-head_verdict c =
+    let p = err_from_is_err_and c.from_residual.result c.from_residual.ensures.1 in
+    rw (p.1, p.2) (rw (← run_parts c.args.n c.args.r.now c.args.storage.now c.args.keys.now, ← c.head_verdict.ensures, c.in_err-head_verdict.was) refl)
+
+pub returns-in_err-storage_verdict : goal.returns-in_err-storage_verdict
+unfolding first_refusal
+returns-in_err-storage_verdict c =
+    let p = err_from_is_err_and c.from_residual-in_err-storage_verdict.result c.from_residual-in_err-storage_verdict.ensures.1 in
+    rw (p.1, p.2) (rw (← run_parts c.args.n c.args.r.now c.args.storage.now c.args.keys.now, ← c.head_verdict.ensures, c.in_ok-head_verdict.was, ← c.storage_verdict.ensures, c.in_err-storage_verdict.was) refl)
+
+pub returns-in_err-numbers_verdict : goal.returns-in_err-numbers_verdict
+unfolding first_refusal
+returns-in_err-numbers_verdict c =
+    let p = err_from_is_err_and c.from_residual-in_err-numbers_verdict.result c.from_residual-in_err-numbers_verdict.ensures.1 in
+    rw (p.1, p.2) (rw (← run_parts c.args.n c.args.r.now c.args.storage.now c.args.keys.now, ← c.head_verdict.ensures, c.in_ok-head_verdict.was, ← c.storage_verdict.ensures, c.in_ok-storage_verdict.was, ← c.numbers_verdict.ensures, c.in_err-numbers_verdict.was) refl)
 
 pub returns : goal.returns
-returns c = cc (run_parts c.args.n c.args.r.now c.args.storage.now c.args.keys.now)
+unfolding first_refusal
+returns c = rw (← run_parts c.args.n c.args.r.now c.args.storage.now c.args.keys.now, ← c.head_verdict.ensures, c.in_ok-head_verdict.was, ← c.storage_verdict.ensures, c.in_ok-storage_verdict.was, ← c.numbers_verdict.ensures, c.in_ok-numbers_verdict.was) c.reserved_verdict.ensures

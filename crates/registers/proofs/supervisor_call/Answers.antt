@@ -20,7 +20,7 @@ returns c =
     λ clock x standing.
     supervisor_called (host a.designation _ _) x standing c.requires.short c.interrupted.result psw to (c.advanced-psw.ensures a.cpu refl) refl
     (left_taken (host a.designation _ _) a.guest a.cpu to _ took c.interrupted.result
-    (c.take-took.ensures a.guest refl refl refl x clock a.cpu to a.text standing refl
+    (c.take-took.ensures x clock a.cpu to a.text standing refl
     (ilc_of-word a.text.ilc (a.text.first % 256) c.requires.short (omega arith)))
     c.interrupted.ensures.0
     (c.interrupted.ensures.1 a.cpu c.with_psw.ensures.2 ∙ ap (λ k. cpu_by a.cpu k took) c.with_psw.ensures.1))

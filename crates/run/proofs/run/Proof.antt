@@ -1,13 +1,12 @@
 -- `run::run` meets its contract.
 use Prim.Native.Nat.{◌+◌, ◌-◌, ◌^◌, ◌≤◌, ◌<◌}
 use native.Mathlib.Omega.{arith}
-use mathlib.Core.Path.{◌≡◌, refl, ◌∙◌}
+use mathlib.Core.Path.{◌≡◌, refl, ap, ◌∙◌}
 use mathlib.Core.Bool.{◌&&◌}
 use lib.ListN.{length, get_or}
 use mir.Syntax.{w32}
 use mir.Val.{Fits}
 use borrow.Author.Rules.{rules}
-use borrow.Author.Tests.{not-true, not-false}
 use Rattle.machine.specs.Interval.{active, pending}
 use Rattle.remaining.specs.Remaining.{machine_at}
 use Rattle.remaining.proofs.Remaining.{budget_ends, one_more, exit_ends}
@@ -48,8 +47,8 @@ loop-holds c = (
   refl,
 )
 
-told : (p : tie.After-pace_after-pace invariant-loop decreases-loop) → p.both-requested.result ≡ (active p.args.guest && pending p.loop-units.asked)
-told p = p.both-requested.ensures ∙ (λ i. p.active-active.ensures i && p.pending.ensures i)
+told : (p : tie.After-pace_after-pace invariant-loop decreases-loop) → p.requests-requested.result ≡ (active p.args.guest && pending p.loop-units.asked)
+told p = p.requests-requested.ensures ∙ ap (λ b. b && pending p.loop-units.asked) p.active-active.ensures
 
 stands : (p : tie.After-pace_after-pace invariant-loop decreases-loop)
     → Stands p.args.designation p.args.guest p.args.clock p.args.time p.args.budget p.args.start p.args.request
@@ -58,13 +57,10 @@ stands : (p : tie.After-pace_after-pace invariant-loop decreases-loop)
     p.paced_streak-streak.new.storage p.loop-units.keys
 stands p = let streak = p.paced_streak-streak in
     let after = p.after_streak-cpu in
-    streak_on p.loop-units.invariant.0 p.both-requested.result (told p) streak.result streak.new.storage streak.ensures.1 after.result after.ensures
+    streak_on p.loop-units.invariant.0 p.requests-requested.result (told p) streak.result streak.new.storage streak.ensures.1 after.result after.ensures
 
-pending-requires : tie.Need-pending-requires invariant-loop decreases-loop
-pending-requires c κs = tt
-
-both-requires : tie.Need-both-requested-requires invariant-loop decreases-loop
-both-requires c κs = tt
+requests-requires : tie.Need-requests-requested-requires invariant-loop decreases-loop
+requests-requires c κs = tt
 
 sub-paced-streak : tie.Need-overflow_sub-budget invariant-loop decreases-loop
 sub-paced-streak c = search rules
@@ -94,15 +90,18 @@ unit-requires c κs =
       (c.active-active.ensures, told c.before.before.before, (stands c.before.before.before).small, pre.1.0),
     )
 
-same_length : tie.Need-shape_of-storage-then-not-step invariant-loop decreases-loop
+told-end : tie.Need-enum_told_at-1 invariant-loop decreases-loop
+told-end c = search rules
+
+same_length : tie.Need-shape_of-storage-in-Some invariant-loop decreases-loop
 same_length c =
     omega (arith, c.loop-units.invariant.2, c.storage-1.given, c.storage-then-units-budget-1.given)
 
-same-length-2 : tie.Need-shape_of-keys-then-not-step invariant-loop decreases-loop
+same-length-2 : tie.Need-shape_of-keys-in-Some invariant-loop decreases-loop
 same-length-2 c =
     omega (arith, c.loop-units.invariant.3, c.keys-1.given)
 
-returns : tie.Need-returns-then-not-step invariant-loop decreases-loop
+returns : tie.Need-returns-in-Some invariant-loop decreases-loop
 returns c =
     let a = c.args in
     let loop = c.loop-units in
@@ -112,8 +111,11 @@ returns c =
     ended_so
     (exit_ends n a.budget _ (loop.units + r.units)
     (machine_at a.guest d c.after_streak-cpu.result loop.asked r.residue r.clock c.paced_streak-streak.new.storage loop.keys)
-    ((stands c.before.before.before.before.before.before.before.before.before.before.before).remains n d designated timed of) c.if-units-budget.true (step.ensures.exit (not-true step.result.completed c.if-not-step.true) n d designated timed of))
+    ((stands c.before.before.before.before.before.before.before.before.before.before).remains n d designated timed of) c.if-units-budget.true (step.ensures.exit c.in-Some.end c.in-Some.is n d designated timed of))
     refl
+
+told-no-end : tie.Need-enum_told_at-in_default invariant-loop decreases-loop
+told-no-end c = search rules
 
 add-units-2 : tie.Need-overflow_add-units-then-units-budget invariant-loop decreases-loop
 add-units-2 c =
@@ -129,15 +131,15 @@ loop-again c =
     let r = c.paced_streak-streak.result in
     let done = c.unit-step in
     let step = done.ensures in
-    let on = not-false done.result.completed c.if-not-step.false in (
+    let on = c.in_default.is in (
       record {
         bounded = step.bounded on;
-        kind = step.architecture on ∙ (stands c.before.before.before.before.before.before.before.before.before.before.before).kind;
+        kind = step.architecture on ∙ (stands c.before.before.before.before.before.before.before.before.before.before).kind;
         small = step.small on;
         remains = λ n d designated timed of.
             one_more n a.budget _ (loop.units + r.units)
             (machine_at a.guest d c.after_streak-cpu.result loop.asked r.residue r.clock c.paced_streak-streak.new.storage loop.keys)
-            ((stands c.before.before.before.before.before.before.before.before.before.before.before).remains n d designated timed of) c.if-units-budget.true (step.on on n d designated timed of);
+            ((stands c.before.before.before.before.before.before.before.before.before.before).remains n d designated timed of) c.if-units-budget.true (step.on on n d designated timed of);
       },
       omega (arith, c.if-units-budget.true),
       omega (arith, loop.invariant.2, c.storage-1.given, c.storage-then-units-budget-1.given),
@@ -179,17 +181,18 @@ run_spec =
     decreases-loop
     active-requires
     loop-holds
-    pending-requires
-    both-requires
+    requests-requires
     sub-paced-streak
     paced-streak-requires
     after-streak-requires
     add-units
     pace-after-requires
     unit-requires
+    told-end
     same_length
     same-length-2
     returns
+    told-no-end
     add-units-2
     loop-less
     loop-again

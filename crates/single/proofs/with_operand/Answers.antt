@@ -1,81 +1,87 @@
 -- `single::with_operand` meets its contract.
 use native.Mathlib.Omega.{arith}
-use mathlib.Core.Path.{refl, sym, ◌∙◌}
+use mathlib.Core.Path.{refl, ap, sym, ◌∙◌}
 use borrow.Author.Tests.{ne_eqb}
-use Rattle.single.specs.Deciding.{Operates}
-use Rattle.single.proofs.Operating.{stck_leaves, stpt_leaves, spt_leaves, lpsw_leaves}
-use Rattle.single.proofs.Meeting.{wants}
+use Rattle.std.proofs.lemmas.Result.{IfOk-weaker, IfErr-weaker}
+use Rattle.machine.specs.Units.{intercepts_lctl}
+use Rattle.single.proofs.Operating.{stck_leaves, stpt_leaves, spt_leaves, lpsw_leaves, stctl_leaves, lctl_leaves}
+use Rattle.single.proofs.Meeting.{calm_so}
 use Rattle.single.proofs.with_operand.Goals as goal
 
-pub returns-then-stopped : goal.returns-then-stopped
-returns-then-stopped c =
-    let a = c.args in
-    let both = wants a.psw a.timer a.storage.now a.control.now (Operates a.guest a.clock a.psw a.timer a.control.now a.kept.now a.kind a.registers a.a a.storage.now) c.requires.1 16 (omega arith) c.wanting.result c.wanting.ensures in record {
-      operates = both.0;
-      storage_unchanged = both.1.0;
-      near = both.1.1.0;
-      a_bound = both.1.1.1;
-    }
-
-pub returns-then-kind-eq-STCK : goal.returns-then-kind-eq-STCK
-returns-then-kind-eq-STCK c =
+pub returns-in-Stck-clause-operates : goal.returns-in-Stck-clause-operates
+returns-in-Stck-clause-operates c =
     let a = c.args in
     let unit = c.store_clock in
-    let own = unit.ensures in record {
-      operates = λ done. stck_leaves a.guest a.clock a.psw a.timer a.control.now a.kept.now a.kind a.registers a.a a.storage.now unit.result (λ k same. sym (c.stopped.ensures k same) ∙ c.if-stopped.false) refl c.if-kind-eq-STCK.true own.timer_value.0 (own.performs done);
-      storage_unchanged = λ few. (own.storage_unchanged few, refl);
-      near = λ ends wrapped. (own.timer_value.2 ends wrapped, own.timer_value.0, refl);
-      a_bound = (own.timer_value.1, c.requires.1);
-    }
+    IfOk-weaker unit.result _ _ (λ d (performs, timed, calm). (
+      stck_leaves a.guest a.clock a.psw a.timer a.control.now a.kept.now a.operation a.registers a.a a.storage.now d
+          (λ k same. sym (c.stopped.ensures k same) ∙ c.if-stopped.false) refl c.in-Stck.is timed performs,
+      calm_so d.change (λ near wrapped. (near wrapped, timed, refl)) calm,
+    )) unit.ensures.performs
 
-pub returns-then-kind-eq-STPT : goal.returns-then-kind-eq-STPT
-returns-then-kind-eq-STPT c =
+pub returns-in-Stck-clause-wants : goal.returns-in-Stck-clause-wants
+returns-in-Stck-clause-wants c = let unit = c.store_clock in IfErr-weaker unit.result _ _ (λ w (bytes, below). (bytes, refl, below)) unit.ensures.wants
+
+pub returns-in-Stpt-clause-operates : goal.returns-in-Stpt-clause-operates
+returns-in-Stpt-clause-operates c =
     let a = c.args in
     let unit = c.store_timer in
-    let own = unit.ensures in record {
-      operates = λ done. stpt_leaves a.guest a.clock a.psw a.timer a.control.now a.kept.now a.kind a.registers a.a a.storage.now unit.result (λ k same. sym (c.stopped.ensures k same) ∙ c.if-stopped.false) refl c.if-kind-eq-STPT.true own.timer_value.0 (own.performs done);
-      storage_unchanged = λ few. (own.storage_unchanged few, refl);
-      near = λ ends wrapped. (own.timer_value.2 ends wrapped, own.timer_value.0, refl);
-      a_bound = (own.timer_value.1, c.requires.1);
-    }
+    IfOk-weaker unit.result _ _ (λ d (performs, timed, calm). (
+      stpt_leaves a.guest a.clock a.psw a.timer a.control.now a.kept.now a.operation a.registers a.a a.storage.now d
+          (λ k same. sym (c.stopped.ensures k same) ∙ c.if-stopped.false) refl c.in-Stpt.is timed performs,
+      calm_so d.change (λ near wrapped. (near wrapped, timed, refl)) calm,
+    )) unit.ensures.performs
 
-pub returns-then-kind-eq-SPT : goal.returns-then-kind-eq-SPT
-returns-then-kind-eq-SPT c =
+pub returns-in-Stpt-clause-wants : goal.returns-in-Stpt-clause-wants
+returns-in-Stpt-clause-wants c = let unit = c.store_timer in IfErr-weaker unit.result _ _ (λ w (bytes, below). (bytes, refl, below)) unit.ensures.wants
+
+pub returns-in-Spt-clause-operates : goal.returns-in-Spt-clause-operates
+returns-in-Spt-clause-operates c =
     let a = c.args in
     let unit = c.set_timer in
-    let own = unit.ensures in record {
-      operates = λ done. spt_leaves a.guest a.clock a.psw a.timer a.control.now a.kept.now a.kind a.registers a.a a.storage.now unit.result (λ k same. sym (c.stopped.ensures k same) ∙ c.if-stopped.false) refl c.if-kind-eq-SPT.true (own.performs done);
-      storage_unchanged = λ few. (refl, refl);
-      near = λ ends _. ((own.a_bound.1 ends).0, (own.a_bound.1 ends).1, refl);
-      a_bound = (own.a_bound.0, c.requires.1);
-    }
+    IfOk-weaker unit.result _ _ (λ d (performs, calm). (
+      spt_leaves a.guest a.clock a.psw a.timer a.control.now a.kept.now a.operation a.registers a.a a.storage.now d
+          (λ k same. sym (c.stopped.ensures k same) ∙ c.if-stopped.false) refl c.in-Spt.is performs,
+      calm_so d.change (λ near _. (near.0, near.1, refl)) calm,
+    )) unit.ensures.performs
 
-pub returns-then-guest-eq1 : goal.returns-then-guest-eq1
-returns-then-guest-eq1 c =
-    let a = c.args in
-    let both = wants a.psw a.timer a.storage.now a.control.now (Operates a.guest a.clock a.psw a.timer a.control.now a.kept.now a.kind a.registers a.a a.storage.now) c.requires.1 4 (omega arith) c.wanting-then-guest-eq1.result c.wanting-then-guest-eq1.ensures in record {
-      operates = both.0;
-      storage_unchanged = both.1.0;
-      near = both.1.1.0;
-      a_bound = both.1.1.1;
-    }
+pub returns-in-Spt-clause-wants : goal.returns-in-Spt-clause-wants
+returns-in-Spt-clause-wants c = let unit = c.set_timer in IfErr-weaker unit.result _ _ (λ w below. (refl, refl, below)) unit.ensures.wants
 
-pub returns-then-kind-eq-LPSW : goal.returns-then-kind-eq-LPSW
-returns-then-kind-eq-LPSW c =
+pub returns-else-guest-eq1-clause-operates : goal.returns-else-guest-eq1-clause-operates
+returns-else-guest-eq1-clause-operates c =
     let a = c.args in
     let unit = c.load_psw in
-    let own = unit.ensures in record {
-      operates = λ done. lpsw_leaves a.guest a.clock a.psw a.timer a.control.now a.kept.now a.kind a.registers a.a a.storage.now unit.result (λ k same. sym (c.stopped.ensures k same) ∙ c.if-stopped.false) refl c.if-kind-eq-LPSW.true (ne_eqb _ _ c.if-guest-eq1.false) own.timer_value.0 (own.performs done);
-      storage_unchanged = λ few. (refl, refl);
-      near = λ ends _. (own.timer_value.2 ends, own.timer_value.0, refl);
-      a_bound = (own.timer_value.1, c.requires.1);
-    }
+    IfOk-weaker unit.result _ _ (λ d (performs, timed, calm). (
+      lpsw_leaves a.guest a.clock a.psw a.timer a.control.now a.kept.now a.operation a.registers a.a a.storage.now d
+          (λ k same. sym (c.stopped.ensures k same) ∙ c.if-stopped.false) refl c.in-Lpsw.is (ne_eqb _ _ c.if-guest-eq1.false) timed performs,
+      calm_so d.change (λ near _. (near, timed, refl)) calm,
+    )) unit.ensures.performs
 
-pub returns : goal.returns
-returns c =
-    let own = c.with_controls.ensures in record {
-      operates = λ done. own.operates done (λ k same. sym (c.stopped.ensures k same) ∙ c.if-stopped.false) c.args.clock;
-      storage_unchanged = own.storage_unchanged;
-      near = own.near;
-      a_bound = own.a_bound;
-    }
+pub returns-else-guest-eq1-clause-wants : goal.returns-else-guest-eq1-clause-wants
+returns-else-guest-eq1-clause-wants c = let unit = c.load_psw in IfErr-weaker unit.result _ _ (λ w below. (refl, refl, below)) unit.ensures.wants
+
+pub returns-else-intercepts_lctl-clause-operates : goal.returns-else-intercepts_lctl-clause-operates
+returns-else-intercepts_lctl-clause-operates c =
+    let a = c.args in
+    let unit = c.load_control in
+    IfOk-weaker unit.result _ _ (λ d (performs, timed, calm). (
+      lctl_leaves a.guest a.clock a.psw a.timer a.control.now a.kept.now a.operation a.registers a.a a.storage.now d
+          (λ k same. sym (c.stopped.ensures k same) ∙ c.if-stopped.false) c.wide-r1.result c.wide-r3.result c.wide-r1.ensures.0 c.wide-r3.ensures.0 (omega arith) c.in-Lctl.is (sym (c.intercepts_lctl.ensures ∙ ap (intercepts_lctl a.guest c.wide-r1.result) c.count_of-count.ensures.2) ∙ c.if-intercepts_lctl.false) timed performs,
+      calm_so d.change (λ near _. (near.0, timed, near.1)) calm,
+    )) unit.ensures.performs
+
+pub returns-else-intercepts_lctl-clause-wants : goal.returns-else-intercepts_lctl-clause-wants
+returns-else-intercepts_lctl-clause-wants c = let unit = c.load_control in IfErr-weaker unit.result _ _ (λ w (registers, below). (refl, registers, below)) unit.ensures.wants
+
+pub returns-in-Stctl-clause-operates : goal.returns-in-Stctl-clause-operates
+returns-in-Stctl-clause-operates c =
+    let a = c.args in
+    let unit = c.store_control in
+    IfOk-weaker unit.result _ _ (λ d (performs, timed, calm). (
+      stctl_leaves a.guest a.clock a.psw a.timer a.control.now a.kept.now a.operation a.registers a.a a.storage.now d
+          (λ k same. sym (c.stopped.ensures k same) ∙ c.if-stopped.false) c.wide-r1.result c.wide-r3.result c.wide-r1.ensures.0 c.wide-r3.ensures.0 (omega arith) refl c.in-Stctl.is timed performs,
+      calm_so d.change (λ near wrapped. (near wrapped, timed, refl)) calm,
+    )) unit.ensures.performs
+
+pub returns-in-Stctl-clause-wants : goal.returns-in-Stctl-clause-wants
+returns-in-Stctl-clause-wants c = let unit = c.store_control in IfErr-weaker unit.result _ _ (λ w (bytes, below). (bytes, refl, below)) unit.ensures.wants

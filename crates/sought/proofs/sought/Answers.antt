@@ -12,8 +12,8 @@ pub returns-then-w-eq1 : goal.returns-then-w-eq1
 returns-then-w-eq1 c =
     λ g x sees k store found. rw c.host_sought.ensures (sym (sought-by_host g (host c.args.space.designation c.args.storage.now k) x c.args.a c.args.w c.if-code-eq-PROTECTION.false c.if-w-eq1.true))
 
-pub returns : goal.returns
-returns c =
+pub returns-else-w-eq1 : goal.returns-else-w-eq1
+returns-else-w-eq1 c =
     λ g x sees k store found.
-    rw (c.guest_sought.ensures g x sees k (number_excepts g c.args.space.designation c.args.storage.now k x store c.args.a c.args.w c.requires.1 c.if-code-eq-PROTECTION.false c.if-w-eq1.false found))
+    rw (c.guest_sought.ensures g x sees k (number_excepts g c.args.space.designation c.args.storage.now k x store c.args.a c.args.w c.requires c.if-code-eq-PROTECTION.false c.if-w-eq1.false found))
     (sym (sought-by_guest g (host c.args.space.designation c.args.storage.now k) x c.args.a c.args.w c.if-code-eq-PROTECTION.false c.if-w-eq1.false))

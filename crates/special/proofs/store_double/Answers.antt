@@ -1,41 +1,27 @@
 -- `special::store_double` meets its contract.
-use Prim.Native.Nat.{◌<◌}
-use native.Mathlib.Omega.{arith}
-use mathlib.Core.Path.{refl, ap, sym, subst}
-use Rattle.machine.specs.Words.{double_bytes}
-use Rattle.writer.proofs.Parts.{sets_of_part}
+use mathlib.Core.Path.{refl, ◌∙◌}
+use Rattle.words.proofs.Numbers.{double_of_part}
 use Rattle.special.proofs.Performing.{store_within}
 use Rattle.special.proofs.store_double.Goals as goal
 
-pub returns-then-from-ge-NOWHERE : goal.returns-then-from-ge-NOWHERE
-returns-then-from-ge-NOWHERE c =
-    let is = c.wanting.ensures in
-    let want = ap (λ s. s.want) is in record { stored = λ done. absurd (omega arith); storage_unchanged = λ _. refl; timer_value = (ap (λ s. s.timer) is, subst (λ s. s.a < 2147483648) (sym is) c.requires.1) }
-
-pub returns-then-a-lt512 : goal.returns-then-a-lt512
-returns-then-a-lt512 c =
-    let is = c.wanting-then-a-lt512.ensures in
-    let want = ap (λ s. s.want) is in record { stored = λ done. absurd (omega arith); storage_unchanged = λ _. refl; timer_value = (ap (λ s. s.timer) is, subst (λ s. s.a < 2147483648) (sym is) (omega arith)) }
-
-pub slice_bounds-put_double_part-end : goal.slice_bounds-put_double_part-end
-slice_bounds-put_double_part-end c =
+pub slice_bounds-put_part-end : goal.slice_bounds-put_part-end
+slice_bounds-put_part-end c =
     let a = c.args in
-    store_within a.storage.now a.kept.now c.requires.0 a.a 8 c.store_place-from.result c.requires.1 (c.store_place-from.ensures c.if-from-ge-NOWHERE.false)
+    store_within a.storage.now a.kept.now c.requires.0 a.a 8 c.in-Some.from c.requires.1 (c.store_place.ensures c.in-Some.from c.in-Some.is)
 
-pub returns : goal.returns
-returns c =
-    let place = c.store_place-from in
+pub returns-clause-stored : goal.returns-clause-stored
+returns-clause-stored c =
     let a = c.args in
-    let is = c.done.ensures in
-    let want = ap (λ s. s.want) is in record {
-      stored = λ done. record {
-        place = place.result;
-        spot = place.ensures c.if-from-ge-NOWHERE.false;
+    let p = c.in-Some.from in
+    let spot = c.store_place.ensures p c.in-Some.is in
+    rw c.leaving.ensures (
+      record {
+        place = p;
+        spot = spot;
         high = c.if-a-lt512.false;
-        put = rw c.put_double_part.ensures (sets_of_part a.storage.now place.result (double_bytes a.value) (store_within a.storage.now a.kept.now c.requires.0 a.a 8 place.result c.requires.1 (place.ensures c.if-from-ge-NOWHERE.false)));
-        left = ap (λ s. s.left) is;
-        right = ap (λ s. s.right) is;
-      };
-      storage_unchanged = λ short. absurd (omega arith);
-      timer_value = (ap (λ s. s.timer) is, subst (λ s. s.a < 2147483648) (sym is) (omega arith));
-    }
+        put = double_of_part a.storage.now _ p a.value (store_within a.storage.now a.kept.now c.requires.0 a.a 8 p c.requires.1 spot) (c.put_part.ensures ∙ c.to_be_bytes.ensures);
+        left = refl;
+        right = refl;
+      },
+      refl,
+    )

@@ -7,6 +7,6 @@ pub returns-then-absolute-extent : goal.returns-then-absolute-extent
 unfolding backing
 returns-then-absolute-extent c = λ g own full. rw (own, full) (search tests)
 
-pub returns : goal.returns
+pub returns-else-absolute-extent : goal.returns-else-absolute-extent
 unfolding backing
-returns c = λ g own full. rw full (search tests)
+returns-else-absolute-extent c = λ g own full. rw full (search tests)

@@ -7,6 +7,6 @@ pub returns-then-found-lt-STOPPED : goal.returns-then-found-lt-STOPPED
 unfolding page_found
 returns-then-found-lt-STOPPED c = search tests
 
-pub returns : goal.returns
+pub returns-else-found-lt-STOPPED : goal.returns-else-found-lt-STOPPED
 unfolding page_found
-returns c = search tests
+returns-else-found-lt-STOPPED c = search tests

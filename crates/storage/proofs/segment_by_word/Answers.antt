@@ -2,9 +2,8 @@
 use native.Mathlib.Omega.{arith}
 use native.Mathlib.Nat.{div-one}
 use Rattle.machine.proofs.Tests.{tests}
-use Rattle.storage.specs.Steps.{segment_leads}
+use Rattle.storage.specs.Steps.{segment_leads, inside}
 use Rattle.storage.specs.Found.{leads_on}
-use Rattle.storage.specs.Steps.{inside, segment_leads}
 use Rattle.storage.proofs.Held.{segment_held}
 use Rattle.storage.proofs.segment_by_word.Goals as goal
 
@@ -20,6 +19,6 @@ pub returns-then-at-storage : goal.returns-then-at-storage
 unfolding segment_leads leads_on
 returns-then-at-storage c = λ a. search (tests, div-one)
 
-pub returns : goal.returns
+pub returns-else-at-storage : goal.returns-else-at-storage
 unfolding segment_leads leads_on
-returns c = λ a. search (tests, div-one)
+returns-else-at-storage c = λ a. search (tests, div-one)

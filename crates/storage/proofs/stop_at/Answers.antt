@@ -1,9 +1,7 @@
 -- `storage::stop_at` meets its contract.
 use Rattle.machine.proofs.Tests.{tests}
 use Rattle.storage.proofs.stop_at.Goals as goal
-
-pub returns-then-at-storage : goal.returns-then-at-storage
-returns-then-at-storage c = search tests
+use Rattle.storage.proofs.stop_at.Goals.{then-at-storage, else-at-storage}
 
 pub returns : goal.returns
-returns c = search tests
+returns c = elim c.if-at-storage.branch [ then-at-storage w ↦ search (tests, w.result-is) | else-at-storage w ↦ search (tests, w.result-is) ]

@@ -1,5 +1,5 @@
 -- `stores::put_controls` meets its contract. The loop's invariant: with the registers that are left stored behind the first `k`, all
-use Prim.Native.Nat.{◌-◌}
+use Prim.Native.Nat.{◌+◌, ◌-◌, ◌%◌}
 use native.Mathlib.Omega.{arith}
 use mathlib.Core.Path.{◌≡◌, refl, ap, sym, ◌∙◌}
 use lib.ListN.{get_or}
@@ -12,19 +12,20 @@ use Rattle.stores.proofs.put_controls.Goals as goal
 pub loop-k-init : goal.loop-k-init
 loop-k-init c =
     let all : c.args.n - 0 ≡ c.args.n = omega arith in
-    (search rules, search rules, refl, λ k same. rw all)
+    let start : (c.args.i + 0) % 16 ≡ c.args.i = omega arith in
+    (refl, λ k same. rw (all, start))
 
 pub loop-k-preserved : goal.loop-k-preserved
-loop-k-preserved c = (
-  search rules,
-  search rules,
-  search rules,
-  λ k same. rw c.put_word.ensures (one_control_more c.loop-k.bytes k c.loop-k.at c.loop-k.k c.args.n _ (search rules) (ap (λ ws. get_or ws c.loop-k.at 0) (sym same))
-      ∙ c.loop-k.invariant.3 k same),
-)
+loop-k-preserved c =
+    let at = (c.args.i + c.loop-k.k) % 16 in
+    let on : (c.args.i + (c.loop-k.k + 1)) % 16 ≡ (at + 1) % 16 = omega arith in (
+      search rules,
+      λ k same. rw (on, c.put_word.ensures) (one_control_more c.loop-k.bytes k at c.loop-k.k c.args.n _ (search rules) (ap (λ ws. get_or ws at 0) (sym same))
+          ∙ c.loop-k.invariant.1 k same),
+    )
 
 pub returns : goal.returns
 unfolding words_bytes controls_from
 returns c =
     let none : c.args.n - c.loop-k.k ≡ 0 = omega arith in
-    λ k same. rw none at (c.loop-k.invariant.3 k (ap (λ r. r.words) same))
+    λ k same. rw none at (c.loop-k.invariant.1 k same)

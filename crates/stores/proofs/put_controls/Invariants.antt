@@ -1,5 +1,5 @@
 -- `stores::put_controls` meets its contract. The loop's invariant: with the registers that are left stored behind the first `k`, all
-use Prim.Native.Nat.{◌-◌, ◌*◌, ◌≤◌, ◌<◌}
+use Prim.Native.Nat.{◌+◌, ◌-◌, ◌*◌, ◌%◌}
 use mathlib.Core.Path.{◌≡◌}
 use lib.ListN.{length}
 use lib.Seq.{sets}
@@ -9,8 +9,5 @@ use Rattle.machine.specs.Execute.{controls_from}
 use Rattle.stores.proofs.put_controls.Given as goal
 
 abbrev pub invariant-loop-k : goal.invariant-loop-k
-invariant-loop-k l = (l.at < 16) × (l.k ≤ l.n) × (length l.bytes ≡ length l.initial.bytes)
-    × ((c : Cpu) → c.control.words ≡ l.words → sets l.bytes (4 * l.k) (words_bytes (controls_from c l.at (l.n - l.k))) ≡ sets l.initial.bytes 0 (words_bytes (controls_from c l.i l.n)))
-
-abbrev pub decreases-loop-k : goal.decreases-loop-k
-decreases-loop-k l = l.n - l.k
+invariant-loop-k l = (length l.bytes ≡ length l.initial.bytes)
+    × ((c : Cpu) → c.control.words ≡ l.control → sets l.bytes (4 * l.k) (words_bytes (controls_from c ((l.i + l.k) % 16) (l.n - l.k))) ≡ sets l.initial.bytes 0 (words_bytes (controls_from c l.i l.n)))

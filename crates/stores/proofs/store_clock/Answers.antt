@@ -1,44 +1,14 @@
 -- `stores::store_clock` meets its contract.
-use native.Mathlib.Omega.{arith}
-use mathlib.Core.Path.{refl, sym, ap}
-use borrow.Author.Rules.{rules}
-use Rattle.machine.specs.Words.{double_bytes}
-use Rattle.machine.specs.Psw.{with_condition_code}
+use mathlib.Core.Path.{refl}
+use Rattle.machine.specs.Psw.{with_psw, with_condition_code}
 use Rattle.machine.specs.Host.{host}
 use Rattle.machine.specs.Execute.{store_clock}
-use Rattle.stores.proofs.Storing.{does, over_code, storing_none, storing_all}
+use Rattle.stores.proofs.Storing.{does}
 use Rattle.stores.proofs.store_clock.Goals as goal
 
-pub reach-o-requires : goal.reach-o-requires
-reach-o-requires c =
-    record { ready = c.requires; a_value = (c.operand_address-a.ensures.0 c.args.cpu refl, omega arith, omega arith) }
-
-pub returns-then-o : goal.returns-then-o
-unfolding store_clock
-returns-then-o c =
-    let args = c.args in
-    let a = c.operand_address-a in
-    does store_clock (host args.designation _ _) λ fetched standing.
-    storing_none _ _ standing a.result 8 (a.ensures.0 args.cpu refl, omega arith, omega arith) c.reach-o.result _ _
-    (c.reach-o.ensures.reaches _ _ standing) _ refl (a.ensures.1 _ refl refl refl) refl _ c.if-o.true
-
-pub put_double_operand-requires : goal.put_double_operand-requires
-put_double_operand-requires c =
-    let within = c.reach-o.ensures.within in
-    let found = c.if-o.false in
-    record { count_bound = within.few found; count_in_bounds = within.first found; count_in_bounds_2 = within.second found }
-
-pub shape_of-storage : goal.shape_of-storage
-shape_of-storage c = let reached = c.storage-1 in search rules
-
 pub returns : goal.returns
-unfolding store_clock
+unfolding store_clock with_psw with_condition_code
 returns c =
     let args = c.args in
-    let a = c.operand_address-a in
-    let cc = with_condition_code args.cpu 0 in
     does store_clock (host args.designation _ _) λ fetched standing.
-    storing_all _ _ standing a.result 8 (a.ensures.0 args.cpu refl, omega arith, omega arith) c.reach-o.result _ _
-    (c.reach-o.ensures.reaches _ _ standing) _ refl (a.ensures.1 _ refl refl refl) (ap double_bytes (c.guest_clock-value.ensures args.guest refl)) cc
-    c.if-o.false c.with_psw.result c.advanced-psw.result c.with_psw.ensures.0 c.with_psw.ensures.1 (over_code args.cpu 0 _)
-    (c.advanced-psw.ensures cc (sym (c.with_condition_code.ensures args.cpu refl))) c.put_double_operand.ensures
+    rw (← c.guest_clock-value.ensures args.guest refl, ← c.with_condition_code-psw.ensures args.cpu refl) (c.store_double.ensures args.clock _ standing)

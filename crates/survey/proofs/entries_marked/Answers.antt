@@ -1,25 +1,28 @@
--- `survey::entries_marked` meets its contract. The loop's invariant: no entry of the pages passed lies in a marked frame.
+-- `survey::entries_marked` meets its contract.
+use Prim.Native.Nat.{ℕ, ◌≤◌}
 use native.Mathlib.Omega.{arith}
-use mathlib.Core.Path.{◌≡◌}
+use mathlib.Core.Bool.{true, false}
+use mathlib.Core.Path.{refl}
 use mathlib.Core.Logic.{⊎_elim}
 use borrow.Author.Rules.{rules}
-use Rattle.survey.proofs.Marking.{tells_yes, tells_no, marked-nowhere, marked_left, marked_right, marked_either}
+use Rattle.tables.proofs.Spanning.{over_spans}
+use Rattle.survey.specs.Marking.{Tells, EntryMarked}
+use Rattle.survey.proofs.Marking.{tells_yes, tells_no, marked_left, marked_right, marked_either}
 use Rattle.survey.proofs.entries_marked.Goals as goal
 
-pub loop-page-init : goal.loop-page-init
-loop-page-init c = (search rules, search rules, marked-nowhere _ _ _ _)
-
-pub segment_marked-requires : goal.segment_marked-requires
-segment_marked-requires c = ((search rules, (search rules, search rules)), search rules)
-
-pub returns-then-segment_marked : goal.returns-then-segment_marked
-returns-then-segment_marked c = tells_yes (marked_left _ _ _ _ _ _ (omega arith) (marked_right _ _ _ c.loop-page.page _ _ (omega arith) (c.segment_marked.ensures.so c.if-segment_marked.true)))
-
-pub loop-page-smaller : goal.loop-page-smaller
-loop-page-smaller c = omega arith
-
-pub loop-page-preserved : goal.loop-page-preserved
-loop-page-preserved c = (search rules, search rules, λ h. ⊎_elim c.loop-page.invariant.2 (c.segment_marked.ensures.never c.if-segment_marked.false) (marked_either _ _ _ c.loop-page.page _ _ h))
-
 pub returns : goal.returns
-returns c = tells_no λ h. c.loop-page.invariant.2 (let all : c.loop-page.page ≡ c.args.to = omega arith in rw (← all) at h)
+returns c =
+    let d = c.args.host.designation in
+    let s = c.args.host.storage.now in
+    let marks = c.args.marks.now in
+    let from = c.args.pages.from in
+    let none : ℕ → Type 0 = λ page. (from ≤ page) × (EntryMarked d s from page marks → ⊥) in
+    over_spans _ false none c.spans.result c.any.new.self _ c.any.ensures.ran (λ x q k. search rules)
+    (λ x q k at.
+    let h : Tells (EntryMarked d s x.from x.to marks) false = search rules in
+    (omega (arith, x.some, at.0), λ m. ⊎_elim at.1 (h.never refl) (marked_either d s from x.from x.to marks m)))
+    (omega arith, λ m. omega (arith, m.entry.low, m.entry.high))
+    (λ page past at end. rw end (tells_no λ m. at.1 (marked_left d s from c.args.pages.to page marks (omega arith) m)))
+    (λ x xs inside at stop.
+    let h : Tells (EntryMarked d s x.from x.to marks) true = search rules in
+    rw stop.0 (tells_yes (marked_left d s from x.to c.args.pages.to marks (omega arith) (marked_right d s from x.from x.to marks at.0 (h.so refl)))))

@@ -1,8 +1,11 @@
 -- `ticking::unit` meets its contract.
+use Rattle.std.specs.Prelude.{None, Some, Option, is_some}
 use native.Mathlib.Omega.{arith}
 use mathlib.Core.Path.{◌≡◌, ap, sym, ◌∙◌}
 use mathlib.Core.Bool.{true, false, ◌&&◌, false≢true}
 use borrow.Author.Rules.{rules}
+use Rattle.machine.specs.declared.End.{End}
+use Rattle.machine.specs.declared.End.TheVariants.{BudgetUsed}
 use Rattle.machine.specs.declared.Numbers.{Numbers}
 use Rattle.machine.specs.Interval.{residue_after}
 use Rattle.machine.specs.Time.{clock_after, charged}
@@ -19,6 +22,19 @@ use Rattle.remaining.specs.Remaining.{machine_at}
 use Rattle.ticking.proofs.Whole.{Begun, begun_at, comes_at, goes_to, stops_to, faults_to}
 use Rattle.ticking.proofs.unit.Statement.{statement}
 use Rattle.ticking.proofs.unit.Tie as tie
+
+-- an end is told, or none is
+
+some-none : {e : End} → Some e ≡ None → ⊥
+some-none is = false≢true (sym (ap is_some is))
+
+end_in : Option End → End
+end_in None = BudgetUsed
+end_in (Some e) = e
+
+same_end : {e f : End} → Some e ≡ Some f → e ≡ f
+unfolding end_in
+same_end is = ap end_in is
 
 begun : (u : tie.After-undone) → (n : Numbers) → n.designation ≡ u.args.designation → n.time ≡ u.args.time
     → Begun n.designation n.time u.args.guest u.args.request u.args.residue u.args.storage.now u.find_due-due.result
@@ -66,14 +82,14 @@ returns c =
     let due = c.find_due-due.result in
     let seen : (is_shut due && is_completed done.result.event) ≡ true = sym c.undone.ensures ∙ c.if-undone.true in
     record {
-      bounded = λ on. absurd (false≢true on);
-      architecture = λ on. absurd (false≢true on);
-      small = λ on. absurd (false≢true on);
-      on = λ on. absurd (false≢true on);
-      exit = λ _ n d designated at-time of.
+      bounded = λ on. absurd (some-none on);
+      architecture = λ on. absurd (some-none on);
+      small = λ on. absurd (some-none on);
+      on = λ on. absurd (some-none on);
+      exit = λ e is n d designated at-time of.
           faults_to n a.guest d of a.start pre.0.2 pre.0.3 a.request a.residue pre.1.2 a.clock a.storage.now a.keys.now due a.requested
           (begun c.before.before n designated at-time) done.result done.new.storage done.new.keys (comes c.before.before n designated) seen
-          ∙ ap (λ e. ends e (machine_at a.guest d a.start a.request a.residue a.clock done.new.storage done.new.keys)) (sym c.fault_end.ensures);
+          ∙ ap (λ e. ends e (machine_at a.guest d a.start a.request a.residue a.clock done.new.storage done.new.keys)) (sym c.fault_end.ensures ∙ same_end is);
     }
 
 state-after-requires : tie.Need-state_after-left-requires
@@ -130,7 +146,7 @@ returns-2 c =
           (λ off. tick.ensures.2 (pre.1.0 ∙ off))
           ∙ ap (λ t. goes (machine_at a.guest d charged'.result tick.result.request tick.result.residue t tick.new.storage done.new.keys))
           (ap (clock_after a.clock) at-time ∙ sym c.clock_after.ensures);
-      exit = λ off. absurd (false≢true (sym off));
+      exit = λ e off. absurd (some-none (sym off));
     }
 
 end-of-requires : tie.Need-end_of-requires
@@ -155,15 +171,15 @@ returns-3 c =
     let seen : (is_shut due && is_completed done.result.event) ≡ false = sym c.undone.ensures ∙ c.if-undone.false in
     let exits : is_completed done.result.event ≡ false = sym c.completed.ensures ∙ c.if-completed.false in
     record {
-      bounded = λ on. absurd (false≢true on);
-      architecture = λ on. absurd (false≢true on);
-      small = λ on. absurd (false≢true on);
-      on = λ on. absurd (false≢true on);
-      exit = λ _ n d designated at-time of.
+      bounded = λ on. absurd (some-none on);
+      architecture = λ on. absurd (some-none on);
+      small = λ on. absurd (some-none on);
+      on = λ on. absurd (some-none on);
+      exit = λ e is n d designated at-time of.
           stops_to n a.guest d of a.start pre.0.2 pre.0.3 a.request a.residue pre.1.2 a.clock a.storage.now a.keys.now due a.requested
           (begun c.before.before.before.before.before.before n designated at-time) done.result done.new.storage done.new.keys (comes c.before.before.before.before.before.before n designated) seen state.result state.ensures.1 exits
           (ap of_xa state.ensures.0) _ (λ on. c.behind_exit.ensures (pre.1.0 ∙ on))
-          ∙ ap (λ e. ends e (machine_at a.guest d state.result c.behind_exit.result a.residue a.clock done.new.storage done.new.keys)) (sym c.end_of.ensures);
+          ∙ ap (λ e. ends e (machine_at a.guest d state.result c.behind_exit.result a.residue a.clock done.new.storage done.new.keys)) (sym c.end_of.ensures ∙ same_end is);
     }
 
 pub unit_spec : {M : Type 1} → statement M

@@ -1,6 +1,6 @@
 -- `unit::unit_after` meets its contract.
 use native.Mathlib.Omega.{arith}
-use mathlib.Core.Path.{ap, ◌∙◌}
+use mathlib.Core.Path.{refl}
 use Rattle.machine.specs.Host.{host, view}
 use Rattle.machine.specs.Units.{started}
 use Rattle.machine.specs.Psw.{with_psw}
@@ -13,17 +13,18 @@ use Rattle.unit.proofs.unit_after.Goals as goal
 
 pub excepted-requires : goal.excepted-requires
 excepted-requires c =
-    let pre = c.requires in record { ready = record { entered = pre.0; with_keys = record { first = λ e. absurd (omega arith); second = λ e. absurd (omega arith) }; frames = pre.1; short = rw c.unfetched.ensures (omega arith) }; code_bound = rw c.exception_of-f.ensures (omega arith) }
+    let pre = c.requires in record {
+      ready = record { entered = pre.0; with_keys = tt; frames = pre.1; short = rw c.unfetched.ensures (omega arith) };
+      code_bound = rw c.exception_of-f.ensures (omega arith);
+    }
 
 pub returns-in-Ends : goal.returns-in-Ends
 unfolding left_by with_psw
 returns-in-Ends c =
     let a = c.args in
-    comes_left a.shut (host a.designation _ _) a.guest a.cpu _ c.ended_with.result
+    comes_left a.shut (host a.designation _ _) a.guest a.cpu _ _
     (λ f word. list_ends a.guest (host a.designation _ _) word a.clock a.cpu a.before c.in-Ends.is)
-    (after_ends (host a.designation _ _) a.guest a.clock a.cpu a.before c.ended_with.result c.in-Ends.reason c.in-Ends.is
-    (ap (λ d. d.event) c.ended_with.ensures)
-    (ap (left_by a.cpu) c.ended_with.ensures ∙ ap (λ k. with_psw k a.cpu.psw) c.with_psw.ensures.1))
+    (after_ends (host a.designation _ _) a.guest a.clock a.cpu a.before _ c.in-Ends.reason c.in-Ends.is refl c.with_psw.ensures.1)
 
 pub returns-in-Malformed : goal.returns-in-Malformed
 returns-in-Malformed c =

@@ -1,16 +1,26 @@
--- `writer::put_operand` meets its contract. The bytes at the second place are those behind the first `count`.
-use mathlib.Core.Path.{sym}
-use lib.Seq.{length-take-le}
-use Rattle.writer.proofs.Parts.{part_to_end}
+-- `writer::put_operand` meets its contract. A part, put back with the bytes, is the run of stores there; of a whole operand nothing is behind.
+use native.Mathlib.Omega.{arith}
+use Prim.Native.Nat.{◌+◌, ◌≤◌}
+use mathlib.Core.Path.{◌≡◌}
+use mathlib.Core.List.{[]}
+use lib.ListN.{length, take, drop, drop_of_length-le}
+use lib.Seq.{sets, length-sets, take_all}
+use Rattle.words.proofs.Parts.{sets_of_part}
 use Rattle.writer.proofs.put_operand.Goals as goal
 
-pub slice_bounds-put_part-end : goal.slice_bounds-put_part-end
-slice_bounds-put_part-end c = sym (length-take-le c.args.count c.args.bytes.now c.requires.count_in_bounds)
+pub returns-then-p-bytes : goal.returns-then-p-bytes
+returns-then-p-bytes c =
+    let a = c.args in
+    let whole : take a.p.count a.bytes.now ≡ a.bytes.now = take_all a.p.count a.bytes.now (omega arith) in
+    let none : drop a.p.count a.bytes.now ≡ [] = drop_of_length-le a.bytes.now (omega arith) in
+    rw (c.put_part.ensures, whole, none) (sets_of_part a.storage.now a.p.first a.bytes.now (omega arith))
 
-pub put_part-requires : goal.put_part-requires
-put_part-requires c = rw (length-take-le c.args.count c.args.bytes.now c.requires.count_in_bounds) c.requires.count_in_bounds_2
-
-pub returns : goal.returns
-returns c =
-    let args = c.args in
-    rw (c.put_part-2.ensures, c.put_part.ensures, part_to_end args.bytes.now args.count)
+pub returns-else-p-bytes : goal.returns-else-p-bytes
+returns-else-p-bytes c =
+    let a = c.args in
+    let front = c.split_at.result.0.now in
+    let back = c.split_at.result.1.now in
+    let one = sets_of_part a.storage.now a.p.first front (omega arith) in
+    let fits : a.p.second + length back ≤ length (sets a.storage.now a.p.first front) = rw length-sets (omega arith) in
+    rw (c.put_part-else-p-bytes-2.ensures, c.put_part-else-p-bytes.ensures, one, sets_of_part (sets a.storage.now a.p.first front) a.p.second back fits)
+    (rw (c.split_at.ensures.front, c.split_at.ensures.back))

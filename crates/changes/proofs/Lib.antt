@@ -1,0 +1,2 @@
+-- Laws of the bits of an entry.
+pub mod Bits

@@ -1,8 +1,0 @@
--- `cpu::basic_control` meets its contract.
-use Rattle.cpu.proofs.basic_control.Goals as goal
-
-pub returns-then-psw : goal.returns-then-psw
-returns-then-psw c = λ cpu same. rw (same, c.if-psw.true)
-
-pub returns : goal.returns
-returns c = λ cpu same. rw (same, c.if-psw.false)

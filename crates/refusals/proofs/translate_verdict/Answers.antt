@@ -1,0 +1,31 @@
+-- `refusals::translate_verdict` meets its contract. Each exit of a `?` is the part of the verdict that refuses.
+use mathlib.Core.Path.{refl, sym, ◌∙◌}
+use Rattle.std.proofs.lemmas.Result.{err_from_is_err_and}
+use Rattle.refusals.specs.Parts.{first_refusal}
+use Rattle.refusals.proofs.Parts.{accepted_head, translate_parts}
+use Rattle.refusals.proofs.translate_verdict.Goals as goal
+
+pub reserved_verdict-requires : goal.reserved_verdict-requires
+reserved_verdict-requires c = accepted_head _ (sym c.head_verdict.ensures ∙ c.in_ok-head_verdict.was)
+
+pub returns-in_err-head_verdict : goal.returns-in_err-head_verdict
+unfolding first_refusal
+returns-in_err-head_verdict c =
+    let p = err_from_is_err_and c.from_residual.result c.from_residual.ensures.1 in
+    rw (p.1, p.2) (rw (← translate_parts c.args.r.now c.args.storage.now c.args.keys.now c.args.kind, ← c.head_verdict.ensures, c.in_err-head_verdict.was) refl)
+
+pub returns-in_err-storage_verdict : goal.returns-in_err-storage_verdict
+unfolding first_refusal
+returns-in_err-storage_verdict c =
+    let p = err_from_is_err_and c.from_residual-in_err-storage_verdict.result c.from_residual-in_err-storage_verdict.ensures.1 in
+    rw (p.1, p.2) (rw (← translate_parts c.args.r.now c.args.storage.now c.args.keys.now c.args.kind, ← c.head_verdict.ensures, c.in_ok-head_verdict.was, ← c.storage_verdict.ensures, c.in_err-storage_verdict.was) refl)
+
+pub returns-in_err-reserved_verdict : goal.returns-in_err-reserved_verdict
+unfolding first_refusal
+returns-in_err-reserved_verdict c =
+    let p = err_from_is_err_and c.from_residual-in_err-reserved_verdict.result c.from_residual-in_err-reserved_verdict.ensures.1 in
+    rw (p.1, p.2) (rw (← translate_parts c.args.r.now c.args.storage.now c.args.keys.now c.args.kind, ← c.head_verdict.ensures, c.in_ok-head_verdict.was, ← c.storage_verdict.ensures, c.in_ok-storage_verdict.was, ← c.reserved_verdict.ensures, c.in_err-reserved_verdict.was) refl)
+
+pub returns : goal.returns
+unfolding first_refusal
+returns c = rw (← translate_parts c.args.r.now c.args.storage.now c.args.keys.now c.args.kind, ← c.head_verdict.ensures, c.in_ok-head_verdict.was, ← c.storage_verdict.ensures, c.in_ok-storage_verdict.was, ← c.reserved_verdict.ensures, c.in_ok-reserved_verdict.was) c.access_verdict.ensures
