@@ -87,7 +87,7 @@ pub fn subtract(a: u32, b: u32) -> Sum
 }
 
 // General register j added to general register i: value and condition code are put into the state together.
-pub fn added(cpu: Cpu, i: u32, j: u32) -> Cpu
+fn add_registers(cpu: Cpu, i: u32, j: u32) -> Cpu
     requires { (i < 16) × (j < 16) }
     ensures { result ≡ added cpu i j }
 {
@@ -100,4 +100,21 @@ pub fn added(cpu: Cpu, i: u32, j: u32) -> Cpu
         general,
         ..cpu
     }
+}
+
+// The same on a state that is lent.
+fn add_in_place(cpu: &mut Cpu, i: u32, j: u32)
+    requires { (i < 16) × (j < 16) }
+    ensures { cpu.new ≡ added cpu.old i j }
+{
+    *cpu = add_registers(*cpu, i, j);
+}
+
+// The same on a state that is handed in and back.
+pub fn added(mut cpu: Cpu, i: u32, j: u32) -> Cpu
+    requires { (i < 16) × (j < 16) }
+    ensures { result ≡ added cpu i j }
+{
+    add_in_place(&mut cpu, i, j);
+    cpu
 }

@@ -1,8 +1,8 @@
--- `adder::added` meets its contract: the state with the sum, by its PSW and its register.
+-- `adder::add_registers` meets its contract: the state with the sum, by its PSW and its register.
 use mathlib.Core.Path.{refl, ap, ◌∙◌}
 use Rattle.machine.specs.Psw.{with_psw, with_general, with_condition_code}
 use Rattle.adder.proofs.Sums.{small_code, sum_state}
-use Rattle.adder.proofs.added.Goals as goal
+use Rattle.adder.proofs.add_registers.Goals as goal
 
 pub with_condition_code-psw-requires : goal.with_condition_code-psw-requires
 with_condition_code-psw-requires c = rw c.add-sum.ensures.2 (small_code _ _)
