@@ -36,7 +36,8 @@ placed Stpt = refl
 placed Mandatory = refl
 placed Unassigned = refl
 
-same_class_lem : (j k : Class) → code_of j ≡ code_of k → j ≡ k
+-- no two classes share a code
+pub same_class_lem : (j k : Class) → code_of j ≡ code_of k → j ≡ k
 same_class_lem j k e = sym (placed j) ∙ ap (λ n. get_or classes n Unassigned) e ∙ placed k
 
 -- a class that is not of this kind

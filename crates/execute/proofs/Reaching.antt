@@ -9,12 +9,14 @@ use mathlib.Core.List.{List, [], ◌++◌}
 use lib.ListN.{length, take, drop}
 use lib.Seq.{sets}
 use Rattle.machine.specs.declared.Cpu.{Cpu}
+use Rattle.machine.specs.declared.Failure.{Failure}
 use Rattle.machine.specs.declared.Guest.{Guest}
 use Rattle.machine.specs.declared.Text.{Text}
 use Rattle.machine.specs.Refusals.{frames_of}
 use Rattle.machine.specs.Psw.{wrap}
 use Rattle.machine.specs.Host.{Host, host, view, referenced, changed}
 use Rattle.machine.specs.Outcomes.{Progress}
+use Rattle.machine.specs.Interruptions.{exception}
 use Rattle.machine.specs.Execute.{finish, fetching, storing}
 use Rattle.laws.proofs.PageBytes.{wrap_by_mode}
 use Rattle.marks.specs.Marks.{mark_operand}
@@ -27,7 +29,7 @@ use Rattle.interruptions.specs.declared.Frames.{Frames}
 use Rattle.interruptions.specs.After.{left_by, mark_text, Standing, Left}
 use Rattle.interruptions.proofs.Leaving.{left_completed}
 use Rattle.pieces.specs.declared.Pieces.{Pieces}
-use Rattle.execute.specs.Reaching.{InReach, Reaches}
+use Rattle.execute.specs.Reaching.{InReach, Reached, Reaches}
 use Rattle.execute.proofs.Operations.{fetching_shut, fetching_open, storing_shut, storing_open, finish_completes}
 
 -- a wrapped address has 31 bits
@@ -48,6 +50,12 @@ in_reach g d s k c store a n wrapped some few each = by_operand (operand_of g (h
         let (ls, reached, opened) = operand_open g (host d s k) c store a n wrapped some few e in
         let (first, second) = operand_keys g d s k c store a n each e in
         (opened.few, opened.first, opened.second, first, second)
+
+-- an operand that is shut ends the unit with its exception
+pub reaches_shut : (h : Host) (g : Guest) (x : Progress) (c : Cpu) (t : Frames) (store : Bool) (n : ℕ) (r : Reached) {storage keys : List ℕ} {o : Operand} (f : Failure) (k : Cpu) (d : Done)
+    → o ≡ Err f → r ≡ Err d → k ≡ c → Left h g c (exception x k f) d storage keys → Reaches h g x c t store n r storage keys o
+reaches_shut h g x c t store n r {storage} {keys} {o} f k d found shut same left =
+    subst (λ r. Reaches h g x c t store n r storage keys o) (sym shut) (f, found, subst (λ k. Left h g c (exception x k f) d storage keys) same left)
 
 -- the unit in progress that stands so, but for what is fetched
 abbrev pub progress_of : Host → Guest → ℕ → Cpu → Text → List ℕ → Progress

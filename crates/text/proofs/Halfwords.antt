@@ -118,10 +118,10 @@ and_keyed k frames.None p keys one key = elim one [ ]
 and_keyed k (frames.One first) p keys one key = (keys, key)
 and_keyed k (frames.Two first second) p keys one key = elim one [ ]
 
-pub ends_in_second : (t : Frames) (p a : ℕ) → OnePage t → a % 4096 ≡ 0 → EndsIn (and_frame t p) a p
-ends_in_second frames.None p a one start = elim one [ ]
-ends_in_second (frames.One first) p a one start = (refl, omega arith)
-ends_in_second (frames.Two first second) p a one start = elim one [ ]
+pub ends_in_second : (t : Frames) (p a : ℕ) → a % 4096 ≡ 0 → EndsIn (and_frame t p) a p
+ends_in_second frames.None p a start = refl
+ends_in_second (frames.One first) p a start = (refl, omega arith)
+ends_in_second (frames.Two first second) p a start = (refl, omega arith)
 
 frame_twice : (f : ℕ) (keys : List ℕ) → mark_frame referenced f (mark_frame referenced f keys) ≡ mark_frame referenced f keys
 frame_twice f keys = by_length (ltb f (length keys)) refl
