@@ -1,18 +1,20 @@
 -- Laws of listings: page by page, and a span after the other.
 use Prim.Native.Nat.{ℕ, zero, suc, ◌+◌, ◌-◌, ◌≤◌, ◌<◌}
-use native.Mathlib.Nat.{add-zero, add-suc}
+use native.Mathlib.Nat.{add-zero, zero-add, add-suc}
 use native.Mathlib.Numerals.{add-one}
 use native.Mathlib.Omega.{arith}
 use mathlib.Core.Path.{◌≡◌, refl, sym, ap, ◌∙◌}
 use mathlib.Core.Bool.{Bool, true, false, cond}
 use mathlib.Core.List.{List, ◌++◌}
-use borrow.Author.Tests.{ltb-true, ltb-false, lt-ltb, le-ltb, eqb-true, eqb-false}
+use mathlib.Core.Logic.{◌⊎◌, inl, inr, ⊎_elim}
+use borrow.Author.Tests.{ltb-true, ltb-false, lt-ltb, le-ltb, eqb-true, eqb-false, ne_eqb}
 use borrow.Rule.Slice.PartMut.{put_mid}
 use lib.Dec.{eqb, ltb}
 use mir.Val.{bool_byte}
-use lib.ListN.{length, get_or, take, drop, replicate, length-set}
+use lib.ListN.{length, get_or, set, take, drop, replicate, length-set}
 use lib.Seq.{get_or-set_same, get_or-set_other, ext_get_or}
 use Rattle.std.proofs.lemmas.List.{length-take, length-take-le, length-drop, length-replicate, get_or-replicate, get_or-append-add, get_or_append_left, get_or-take, get_or-drop}
+use Rattle.machine.specs.Walk.{frame_of}
 use Rattle.desk.specs.Reach.{page_valid}
 use Rattle.desk.specs.Extent.{not_valid, count_below, words_below, frame_listed, valid_pages}
 use Rattle.desk.proofs.Tables.{true_or_false}
@@ -106,13 +108,78 @@ word_past zero word ws k h = refl
 word_past (suc n) word ws k h = get_or-set_other (words_below n word ws) n k (word n) 0 (omega arith) ∙ word_past n word ws k (omega arith)
 
 -- a list with these words in the first places, and the others' elsewhere
-pub words_by_place : (n : ℕ) (word : ℕ → ℕ) (ws l : List ℕ) → length l ≡ length ws → n ≤ length ws → ((k : ℕ) → k < n → get_or l k 0 ≡ word k)
+pub first_words_by_place : (n : ℕ) (word : ℕ → ℕ) (ws l : List ℕ) → length l ≡ length ws → n ≤ length ws → ((k : ℕ) → k < n → get_or l k 0 ≡ word k)
     → ((i : ℕ) → n ≤ i → get_or l i 0 ≡ get_or ws i 0) → l ≡ words_below n word ws
-words_by_place n word ws l long fits there beside =
+first_words_by_place n word ws l long fits there beside =
     ext_get_or 0 l (words_below n word ws) (long ∙ sym (length_words n word ws)) λ i h.
     true_or_false _ (ltb i n)
     (λ e. let low = ltb-true i n e in there i low ∙ sym (word_there n word ws i fits low))
     (λ e. let high = ltb-false i n e in beside i high ∙ sym (word_past n word ws i high))
+
+-- `n` words from a place on, by their distance from it
+unfoldable pub words_from : ℕ → ℕ → (ℕ → ℕ) → List ℕ → List ℕ
+words_from at zero word words = words
+words_from at (suc n) word words = set (words_from at n word words) (at + n) (word n)
+
+pub words_more : (at n : ℕ) (word : ℕ → ℕ) (ws : List ℕ) → words_from at (n + 1) word ws ≡ set (words_from at n word ws) (at + n) (word n)
+unfolding words_from
+words_more at n word ws = rw add-one
+
+pub length-words_from : (at n : ℕ) (word : ℕ → ℕ) (ws : List ℕ) → length (words_from at n word ws) ≡ length ws
+unfolding words_from
+length-words_from at zero word ws = refl
+length-words_from at (suc n) word ws = length-set (words_from at n word ws) (at + n) (word n) ∙ length-words_from at n word ws
+
+pub words_beside : (at n : ℕ) (word : ℕ → ℕ) (ws : List ℕ) (i : ℕ) → (i < at) ⊎ (at + n ≤ i) → get_or (words_from at n word ws) i 0 ≡ get_or ws i 0
+unfolding words_from
+words_beside at zero word ws i h = refl
+words_beside at (suc n) word ws i h =
+    get_or-set_other (words_from at n word ws) (at + n) i (word n) 0 (⊎_elim (λ b e. omega arith) (λ b e. omega arith) h)
+    ∙ words_beside at n word ws i (⊎_elim (λ b. inl b) (λ b. inr (omega arith)) h)
+
+pub words_there : (at n : ℕ) (word : ℕ → ℕ) (ws : List ℕ) (k : ℕ) → k < n → at + n ≤ length ws → get_or (words_from at n word ws) (at + k) 0 ≡ word k
+unfolding words_from
+words_there at zero word ws k h fits = absurd (omega arith)
+words_there at (suc n) word ws k h fits =
+    true_or_false _ (eqb k n)
+    (λ e. rw (eqb-true k n e) (get_or-set_same (words_from at n word ws) (at + n) (word n) 0 (omega (arith, length-words_from at n word ws))))
+    (λ e.
+    let other : k ≡ n → ⊥ = eqb-false k n e in
+    get_or-set_other (words_from at n word ws) (at + n) (at + k) (word n) 0 (λ q. omega arith) ∙ words_there at n word ws k (omega arith) (omega arith))
+
+-- a list with these words at these places, and the others' elsewhere
+pub words_by_place : (at n : ℕ) (word : ℕ → ℕ) (ws l : List ℕ) → length l ≡ length ws → at + n ≤ length ws
+    → ((i : ℕ) → (i < at) ⊎ (at + n ≤ i) → get_or l i 0 ≡ get_or ws i 0) → ((k : ℕ) → k < n → get_or l (at + k) 0 ≡ word k) → l ≡ words_from at n word ws
+words_by_place at n word ws l long fits beside there =
+    ext_get_or 0 l (words_from at n word ws) (long ∙ sym (length-words_from at n word ws)) λ i h.
+    true_or_false _ (ltb i at)
+    (λ e. let low = inl (ltb-true i at e) in beside i low ∙ sym (words_beside at n word ws i low))
+    (λ e. true_or_false _ (ltb i (at + n))
+    (λ f.
+    let past : at ≤ i = ltb-false i at e in
+    let below : i < at + n = ltb-true i (at + n) f in
+    let is : at + (i - at) ≡ i = omega arith in
+    rw (← is) (there (i - at) (omega arith) ∙ sym (words_there at n word ws (i - at) (omega arith) fits)))
+    (λ f. let high = inr (ltb-false i (at + n) f) in beside i high ∙ sym (words_beside at n word ws i high)))
+
+pub words_along : (m n : ℕ) (word : ℕ → ℕ) (ws : List ℕ) → words_below (m + n) word ws ≡ words_from m n (λ k. word (m + k)) (words_below m word ws)
+unfolding words_below words_from
+words_along m zero word ws = rw (add-zero m)
+words_along m (suc n) word ws = rw (add-suc m n, words_along m n word ws)
+
+pub same_words_from : (at n : ℕ) (f g : ℕ → ℕ) (ws : List ℕ) → ((k : ℕ) → k < n → f k ≡ g k) → words_from at n f ws ≡ words_from at n g ws
+unfolding words_from
+same_words_from at zero f g ws same = refl
+same_words_from at (suc n) f g ws same = rw (same_words_from at n f g ws (λ k h. same k (omega arith)), same n (omega arith))
+
+-- words from the front on
+pub words_at_front : (n : ℕ) (word : ℕ → ℕ) (ws : List ℕ) (k : ℕ) → k < n → n ≤ length ws → get_or (words_from 0 n word ws) k 0 ≡ word k
+words_at_front n word ws k h fits = let own : 0 + k ≡ k = zero-add k in rw own at (words_there 0 n word ws k h (omega arith))
+
+-- a word that is shown as not valid does not count
+pub counts_shown : (e : ℕ) → ◌≡◌ {A = ℕ} (cond (eqb (word_shown e) not_valid) 0 1) (cond (word_valid e) 1 0)
+unfolding word_shown
+counts_shown e = true_or_false _ (word_valid e) (λ f. rw f (rw (ne_eqb (frame_of e) not_valid (λ h. omega arith)))) (λ f. rw f)
 
 -- a truth counts one
 pub counts : (b : Bool) → (bool_byte b ≡ cond b 1 0) × (bool_byte b ≤ 1)
@@ -165,6 +232,10 @@ module _ (first m n from d : ℕ) (s : List ℕ) (is : from ≡ first + m) where
       let past : m ≤ k = ltb-false k m e in
       let place : from + (k - m) ≡ first + k = omega arith in
       in_part m n ws ys long fits k past h ∙ here (k - m) (omega arith) ∙ ap (frame_listed d s) place)
+
+-- of so many indexes from one on, the first `m` below a limit
+pub reach-low : (limit from m count : ℕ) → m ≤ count → ((k : ℕ) → k < count → ltb (from + k) limit ≡ ltb k m) → (k : ℕ) → k < m → from + k < limit
+reach-low limit from m count few reach k h = ltb-true _ _ (reach k (omega arith) ∙ lt-ltb k m h)
 
 -- how long a part of a list is
 pub length_of_part : (m n : ℕ) (ws : List ℕ) → m + n ≤ length ws → length (take n (drop m ws)) ≡ n

@@ -6,7 +6,7 @@ use lib.ListN.{length, take, drop}
 use Rattle.desk.specs.Reach.{page_valid}
 use Rattle.desk.specs.Extent.{count_below, valid_pages, listing}
 use Rattle.tables.specs.declared.spans.Spans.{Spans}
-use Rattle.listings.proofs.Listing.{count_few, few_valid, valid_along, listed_along, after_part, length_of_part, words_by_place}
+use Rattle.listings.proofs.Listing.{count_few, few_valid, valid_along, listed_along, after_part, length_of_part, first_words_by_place}
 use Rattle.listings.proofs.list.Goals as goal
 
 pub loop-span-init : goal.loop-span-init
@@ -64,5 +64,5 @@ returns c =
     let all : c.loop-span.span-iterator.from - c.args.pages.from ≡ c.args.pages.to - c.args.pages.from = omega (arith, c.in-None.ensures.steps) in
     rw (← all) (
       c.loop-span.invariant.1,
-      words_by_place _ _ c.args.words.now c.loop-span.words (omega arith) (omega arith) c.loop-span.invariant.2 c.loop-span.invariant.3,
+      first_words_by_place _ _ c.args.words.now c.loop-span.words (omega arith) (omega arith) c.loop-span.invariant.2 c.loop-span.invariant.3,
     )
