@@ -1,5 +1,5 @@
 -- Laws of listings: page by page, and a span after the other.
-use Prim.Native.Nat.{ℕ, zero, suc, ◌+◌, ◌-◌, ◌≤◌, ◌<◌}
+use Prim.Native.Nat.{ℕ, zero, suc, ◌+◌, ◌-◌, ◌*◌, ◌≤◌, ◌<◌}
 use native.Mathlib.Nat.{add-zero, zero-add, add-suc}
 use native.Mathlib.Numerals.{add-one}
 use native.Mathlib.Omega.{arith}
@@ -14,6 +14,7 @@ use mir.Val.{bool_byte}
 use lib.ListN.{length, get_or, set, take, drop, replicate, length-set}
 use lib.Seq.{get_or-set_same, get_or-set_other, ext_get_or}
 use Rattle.std.proofs.lemmas.List.{length-take, length-take-le, length-drop, length-replicate, get_or-replicate, get_or-append-add, get_or_append_left, get_or-take, get_or-drop}
+use Rattle.machine.specs.Words.{word_at}
 use Rattle.machine.specs.Walk.{frame_of}
 use Rattle.desk.specs.Reach.{page_valid}
 use Rattle.desk.specs.Extent.{not_valid, count_below, words_below, frame_listed, valid_pages}
@@ -181,17 +182,70 @@ pub counts_shown : (e : ℕ) → ◌≡◌ {A = ℕ} (cond (eqb (word_shown e) n
 unfolding word_shown
 counts_shown e = true_or_false _ (word_valid e) (λ f. rw f (rw (ne_eqb (frame_of e) not_valid (λ h. omega arith)))) (λ f. rw f)
 
+-- the entry of an index, in a table that begins here, and the page of the index in a listing, by so many entries in reach
+abbrev pub entry_of : List ℕ → ℕ → ℕ → ℕ
+entry_of s start i = word_at s (start + i * 4)
+
+abbrev pub index_shown : List ℕ → ℕ → ℕ → ℕ → ℕ
+index_shown s start limit i = cond (ltb i limit) (word_shown (entry_of s start i)) not_valid
+
+-- a table's pages from an index on, of which the first `m` are in reach
+module _ (s : List ℕ) (start limit from m count : ℕ) (few : m ≤ count) (reach : (k : ℕ) → k < count → ltb (from + k) limit ≡ ltb k m) where
+  near : (k : ℕ) → k < m → ltb (from + k) limit ≡ true
+  near k h = reach k (omega arith) ∙ lt-ltb k m h
+
+  far : (k : ℕ) → m ≤ k → k < count → ltb (from + k) limit ≡ false
+  far k h below = reach k below ∙ le-ltb k m h
+
+  pub reach-low : (k : ℕ) → k < m → from + k < limit
+  reach-low k h = ltb-true _ _ (near k h)
+
+  -- the copies, shown in their places, and the rest not shown
+  pub words_of_table : (at : ℕ) (w₀ w₁ w₂ w₃ : List ℕ) → at + count ≤ length w₀ → w₁ ≡ words_from at m (λ k. entry_of s start (from + k)) w₀
+      → w₂ ≡ words_from at m (λ k. word_shown (get_or w₁ (at + k) 0)) w₁ → w₃ ≡ words_from (at + m) (count - m) (λ k. not_valid) w₂
+      → w₃ ≡ words_from at count (λ k. index_shown s start limit (from + k)) w₀
+  words_of_table at w₀ w₁ w₂ w₃ fits copied shown hidden =
+      words_by_place at count _ w₀ w₃ long₃ fits
+      (λ i h.
+      rw hidden (words_beside (at + m) (count - m) _ w₂ i (⊎_elim (λ b. inl (omega arith)) (λ b. inr (omega arith)) h)
+      ∙ rw shown (words_beside at m _ w₁ i (⊎_elim (λ b. inl b) (λ b. inr (omega arith)) h)
+      ∙ rw copied (words_beside at m _ w₀ i (⊎_elim (λ b. inl b) (λ b. inr (omega arith)) h)))))
+      (λ k h. true_or_false _ (ltb k m) (λ e. in_reach k (ltb-true k m e)) (λ e. out_of_reach_lem k h (ltb-false k m e)))
+    where
+      long₁ : length w₁ ≡ length w₀
+      long₁ = ap length copied ∙ length-words_from at m _ w₀
+
+      long₂ : length w₂ ≡ length w₀
+      long₂ = ap length shown ∙ length-words_from at m _ w₁ ∙ long₁
+
+      long₃ : length w₃ ≡ length w₀
+      long₃ = ap length hidden ∙ length-words_from (at + m) (count - m) _ w₂ ∙ long₂
+
+      in_reach : (k : ℕ) → k < m → get_or w₃ (at + k) 0 ≡ cond (ltb (from + k) limit) (word_shown (entry_of s start (from + k))) not_valid
+      in_reach k h =
+          ap (λ l. get_or l (at + k) 0) hidden
+          ∙ words_beside (at + m) (count - m) _ w₂ (at + k) (inl (omega arith))
+          ∙ ap (λ l. get_or l (at + k) 0) shown
+          ∙ words_there at m _ w₁ k h (omega (arith, long₁))
+          ∙ ap word_shown (ap (λ l. get_or l (at + k) 0) copied ∙ words_there at m _ w₀ k h (omega arith))
+          ∙ rw (near k h) refl
+
+      out_of_reach_lem : (k : ℕ) → k < count → m ≤ k → get_or w₃ (at + k) 0 ≡ cond (ltb (from + k) limit) (word_shown (entry_of s start (from + k))) not_valid
+      out_of_reach_lem k h past =
+          let is : at + m + (k - m) ≡ at + k = omega arith in
+          rw (far k past h, hidden, ← is) (words_there (at + m) (count - m) (λ _. not_valid) w₂ (k - m) (omega arith) (omega (arith, long₂)))
+
 -- a truth counts one
 pub counts : (b : Bool) → (bool_byte b ≡ cond b 1 0) × (bool_byte b ≤ 1)
 counts true = (refl, omega arith)
 counts false = (refl, omega arith)
 
 -- the words of a span: those of the entries, shown, and the rest not valid
-pub words_of_table : (d : ℕ) (s : List ℕ) (from to : ℕ) (entries : List (List ℕ)) → EntriesOf d s from to entries → (ws rest : List ℕ)
+pub words_of_span : (d : ℕ) (s : List ℕ) (from to : ℕ) (entries : List (List ℕ)) → EntriesOf d s from to entries → (ws rest : List ℕ)
     → from + length ws ≡ to → ((k : ℕ) → k < length entries → get_or ws k 0 ≡ word_shown (entry_at entries k))
     → rest ≡ replicate (length (take (length ws - length entries) (drop (length entries) ws))) not_valid → (k : ℕ) → k < length ws
     → get_or (put_mid (length entries) (length ws - length entries) ws rest) k 0 ≡ frame_listed d s (from + k)
-words_of_table d s from to entries told ws rest is shown hidden k h =
+words_of_span d s from to entries told ws rest is shown hidden k h =
     let m = length entries in
     let n = length ws - m in
     let few : m + n ≤ length ws = omega (arith, told.few) in
@@ -232,10 +286,6 @@ module _ (first m n from d : ℕ) (s : List ℕ) (is : from ≡ first + m) where
       let past : m ≤ k = ltb-false k m e in
       let place : from + (k - m) ≡ first + k = omega arith in
       in_part m n ws ys long fits k past h ∙ here (k - m) (omega arith) ∙ ap (frame_listed d s) place)
-
--- of so many indexes from one on, the first `m` below a limit
-pub reach-low : (limit from m count : ℕ) → m ≤ count → ((k : ℕ) → k < count → ltb (from + k) limit ≡ ltb k m) → (k : ℕ) → k < m → from + k < limit
-reach-low limit from m count few reach k h = ltb-true _ _ (reach k (omega arith) ∙ lt-ltb k m h)
 
 -- how long a part of a list is
 pub length_of_part : (m n : ℕ) (ws : List ℕ) → m + n ≤ length ws → length (take n (drop m ws)) ≡ n

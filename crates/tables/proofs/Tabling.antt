@@ -5,7 +5,7 @@ use mathlib.Core.Path.{◌≡◌, refl, sym, ap, ◌∙◌}
 use mathlib.Core.Bool.{true, false, not, ◌&&◌}
 use mathlib.Core.List.{List}
 use mathlib.Core.Logic.{◌⊎◌, inl, inr}
-use borrow.Author.Tests.{ltb-true, ltb-false, leb-true, lt-ltb, le-ltb, lt-leb}
+use borrow.Author.Tests.{ltb-true, ltb-false, leb-true, lt-ltb, le-ltb, le-leb, lt-leb}
 use lib.Dec.{leb, ltb}
 use Rattle.std.proofs.lemmas.Bool.{and_right}
 use Rattle.std.proofs.lemmas.Bool.Decides.{nat_tests}
@@ -16,7 +16,7 @@ use Rattle.machine.specs.Sizes.{page_bytes, segment_pages}
 use Rattle.machine.specs.Walk.{segment_index, page_index, segment_entry_at, past_segment_table, segment_invalid, segment_malformed, past_page_table}
 use Rattle.machine.specs.Frames.{segment_of, page_place}
 use Rattle.desk.specs.Reach.{segment_reached, page_reached}
-use Rattle.desk.proofs.Tables.{both, true_or_false}
+use Rattle.desk.proofs.Tables.{both, and_true, same_bool, true_or_false}
 use Rattle.tables.specs.Tabling.{SegmentThere, SegmentMissed, SegmentAt, TableAt, PageAt}
 
 -- the indexes of a host page
@@ -26,6 +26,14 @@ index_of_page page = omega arith
 
 pub place_of_page : (page : ℕ) → page_index (page * page_bytes) ≡ page % segment_pages
 place_of_page page = omega arith
+
+-- the limit of a table, by its tests
+pub limit_is : (i limit count base long : ℕ) → (i < limit → (i < count) × (base + i * 4 + 4 ≤ long)) → (i < count → base + i * 4 + 4 ≤ long → i < limit)
+    → ltb i limit ≡ (ltb i count && leb (base + i * 4 + 4) long)
+limit_is i limit count base long out into =
+    same_bool _ _
+    (λ e. let h = out (ltb-true _ _ e) in and_true (lt-ltb _ _ h.0) (le-leb _ _ h.1))
+    (λ e. let h = both _ _ e in lt-ltb _ _ (into (ltb-true _ _ h.0) (leb-true _ _ h.1)))
 
 module _ (d : ℕ) (s : List ℕ) where
   -- the segment entry of an index, by its tests

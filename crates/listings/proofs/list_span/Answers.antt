@@ -7,7 +7,7 @@ use lib.ListN.{get_or, length}
 use lib.Seq.{get_or-set_same, get_or-set_other}
 use Rattle.desk.specs.Extent.{count_below}
 use Rattle.tables.specs.Tabling.{entry_at, word_valid, word_shown}
-use Rattle.listings.proofs.Listing.{count_more, count_few, count_by_table, words_of_table, counts}
+use Rattle.listings.proofs.Listing.{count_more, count_few, count_by_table, words_of_span, counts}
 use Rattle.listings.proofs.list_span.Goals as goal
 
 pub loop-k-init : goal.loop-k-init
@@ -44,6 +44,6 @@ returns c =
       loop.invariant.0
           ∙ ap (λ n. count_below n (λ j. word_valid (entry_at entries j))) all
           ∙ count_by_table c.args.host.designation s span.from span.to entries told (length c.args.words.now) c.requires,
-      λ k h. words_of_table c.args.host.designation s span.from span.to entries told loop.words c.fill.new.self (omega arith)
+      λ k h. words_of_span c.args.host.designation s span.from span.to entries told loop.words c.fill.new.self (omega arith)
           (λ j low. loop.invariant.1 j (omega arith)) (c.fill.ensures.after (λ y e. e)) k (omega arith),
     )
