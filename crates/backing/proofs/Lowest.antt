@@ -62,6 +62,7 @@ module _ (s : List ℕ) (a number : ℕ) (read : Bytes s a number) where
   unfolding word_at
   is_entry = let last : a + 2 + 1 ≡ a + 3 = omega arith in rw last
 
+  -- an entry says a valid page by these bits of its bytes
   pub valid_by_bytes : word_valid (word_at s a)
       ≡ (not (eqb (number / 262144 % 2) 1) && not (eqb (number / 128 % 2) 1 || eqb (number / 524288 % 2) 1 || eqb (number / 65536 % 2) 1))
   unfolding word_valid
@@ -160,3 +161,6 @@ module _ (d : ℕ) (s : List ℕ) (from page next to low high start end : ℕ) (
   -- with them all are valid up to the next
   pub all_passed : page ≤ next → Lowest valid 0 (next - page) None → AllPass (page_valid d s) from page → AllPass (page_valid d s) from next
   all_passed order first passed = let is : page + (next - page) ≡ next = omega arith in rw is at (passed_on (next - page) (omega arith) first passed)
+
+pub all_of_them : (test : ℕ → Bool) (from to : ℕ) → AllPass test from to → Lowest test from to None
+all_of_them test from to passed = passed
