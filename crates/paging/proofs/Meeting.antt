@@ -2,7 +2,7 @@
 use Prim.Native.Nat.{ℕ, zero, suc, ◌+◌, ◌-◌, ◌/◌, ◌≤◌, ◌<◌}
 use native.Mathlib.Omega.{arith}
 use mathlib.Core.Path.{◌≡◌, refl, sym, ap, ◌∙◌, subst}
-use mathlib.Core.Bool.{Bool, true, false, ◌&&◌, ◌||◌}
+use mathlib.Core.Bool.{Bool, true, false, cond, ◌&&◌, ◌||◌}
 use mathlib.Core.List.{List}
 use mathlib.Core.Logic.{◌⊎◌, inl, inr, ⊎_elim}
 use borrow.Author.Tests.{ltb-true, ltb-false, lt-ltb, eqb-true, eqb-false, eq-eqb, ne_eqb}
@@ -10,7 +10,7 @@ use lib.Dec.{eqb, ltb}
 use lib.ListN.{length, get_or, set, take, replicate}
 use borrow.Author.Rules.{rules}
 use Rattle.std.specs.Prelude.{Option, Some, None, IsSome}
-use Rattle.std.proofs.lemmas.List.{set_past}
+use Rattle.std.proofs.lemmas.List.{set_past, length-take-le, length-replicate}
 use Rattle.machine.specs.Words.{word_at}
 use Rattle.machine.specs.Sizes.{frame_bytes}
 use Rattle.machine.specs.Refusals.{frames_of}
@@ -45,12 +45,17 @@ none_true (suc m) (suc n) (suc f) = none_true m n f
 pub unmarked : (m n f : ℕ) → Marked (take m (replicate n false)) f → ⊥
 unmarked m n f h = never_both h (none_true m n f)
 
+-- as many marks as there were
+pub length-marked : (P Q : ℕ → Type 0) (m n f : ℕ) (a b : List Bool) → Added P (take m (replicate n false)) a → Added Q a b → m ≤ n → m ≡ f → length b ≡ f
+length-marked P Q m n f a b first second fits is =
+    second.long ∙ first.long ∙ length-take-le m (replicate n false) (simp length-replicate fits) ∙ is
+
 -- the marks of all pages but the own one, and of the frame
 module _ (d : ℕ) (s : List ℕ) (from to own frame : ℕ) (zeros : List Bool) (none : (f : ℕ) → Marked zeros f → ⊥) where
-  pub marks_tell : (a b : List Bool) (answer : Bool) → length b ≡ frames_of s → Added (SomePage (Names d s) from own) zeros a
-      → Added (SomePage (Names d s) (own + 1) to) a b → Tells (EntryMarked d s from to (set b frame true)) answer
-      → Tells (Meets d s from to own frame) answer
-  marks_tell a b answer long first second tells = record {
+  pub marks_tell : (frames : ℕ) (a b : List Bool) (answer : Bool) → frames ≡ frames_of s → frames ≤ length b
+      → Added (SomePage (Names d s) from own) zeros a → Added (SomePage (Names d s) (own + 1) to) a b
+      → Tells (EntryMarked d s from to (cond (ltb frame frames) (set b frame true) b)) answer → Tells (Meets d s from to own frame) answer
+  marks_tell frames a b answer is long first second tells = record {
     so = λ e.
         let m = tells.so e in
         let n = name m.frame m.marked in
@@ -58,6 +63,9 @@ module _ (d : ℕ) (s : List ℕ) (from to own frame : ℕ) (zeros : List Bool) 
     never = λ e m. tells.never e (record { frame = m.place; entry = m.entry; marked = mark m.place (omega (arith, m.low)) m.named });
   }
     where
+      later : List Bool
+      later = cond (ltb frame frames) (set b frame true) b
+
       Named : ℕ → Type 0
       Named f = (SomePage (Names d s) from own f ⊎ SomePage (Names d s) (own + 1) to f) ⊎ (frame ≡ f)
 
@@ -68,22 +76,29 @@ module _ (d : ℕ) (s : List ℕ) (from to own frame : ℕ) (zeros : List Bool) 
           (λ p. (p.is.1.1, inl (inr p)))
           (second.new f h)
 
-      -- a frame past the storage is not marked
-      past : length b ≤ frame → set b frame true ≡ b
-      past h = set_past b frame true h
+      name : (f : ℕ) → Marked later f → (f < frames_of s) × Named f
+      name f = true_or_false _ (ltb frame frames)
+          (λ e h.
+          let low = ltb-true frame frames e in
+          ⊎_elim (earlier f) (λ q. (omega arith, inr q)) ((added_one b frame (omega arith)).new f (rw e at h)))
+          (λ e h. earlier f (rw e at h))
 
-      name : (f : ℕ) → Marked (set b frame true) f → (f < frames_of s) × Named f
-      name f h = true_or_false _ (ltb frame (length b))
-          (λ e. let low = ltb-true _ _ e in ⊎_elim (earlier f) (λ q. (omega arith, inr q)) ((added_one b frame low).new f h))
-          (λ e. earlier f (rw (past (ltb-false _ _ e)) at h))
+      kept : (f : ℕ) → Marked b f → Marked later f
+      kept f m = true_or_false _ (ltb frame frames) (λ e. rw e ((added_one b frame (omega (arith, ltb-true frame frames e))).kept f m)) (λ e. rw e m)
 
-      kept : (f : ℕ) → Marked b f → Marked (set b frame true) f
-      kept f m = true_or_false _ (ltb frame (length b)) (λ e. (added_one b frame (ltb-true _ _ e)).kept f m) (λ e. rw (past (ltb-false _ _ e)) m)
-
-      mark : (f : ℕ) → f < frames_of s → Named f → Marked (set b frame true) f
+      mark : (f : ℕ) → f < frames → Named f → Marked later f
       mark f small (inl (inl p)) = kept f (second.kept f (first.all f p))
       mark f small (inl (inr p)) = kept f (second.all f p)
-      mark f small (inr q) = (added_one b frame (omega arith)).all f q
+      mark f small (inr q) = let e = lt-ltb frame frames (omega arith) in rw e ((added_one b frame (omega arith)).all f q)
+
+  -- so where there are as many marks as frames: a frame past them is not marked
+  pub marks-tell_frame : (a b : List Bool) (answer : Bool) → length b ≡ frames_of s → Added (SomePage (Names d s) from own) zeros a
+      → Added (SomePage (Names d s) (own + 1) to) a b → Tells (EntryMarked d s from to (set b frame true)) answer
+      → Tells (Meets d s from to own frame) answer
+  marks-tell_frame a b answer long first second tells =
+      marks_tell (frames_of s) a b answer refl (omega (arith, long)) first second
+      (true_or_false _ (ltb frame (frames_of s)) (λ e. rw e tells)
+      (λ e. rw (e, ← set_past b frame true (omega (arith, long, ltb-false frame (frames_of s) e))) tells))
 
 -- what the page of a call names after the change
 record OwnName (c : Change) (d : ℕ) (s : List ℕ) (page : ℕ) : Type 0 where

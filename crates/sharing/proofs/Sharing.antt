@@ -38,9 +38,8 @@ module _ (d : ℕ) (s : List ℕ) (from to own place : ℕ) (some : from < to) (
       let missed = segment.missed h.page (in_segment h) in
       ⊎_elim (λ w. never_both (segment_of-reached d s h.page w.1.0) missed) (λ w. never_both w.0 missed) h.is
 
-  module _ (at start end : ℕ) (segment : SegmentThere d s (from / segment_pages) at) (table : TableAt d s from to start end)
-      (is : page_place d s own ≡ place) where
-    shared_as_segment : at ≡ place → SomePage (SharedBy d s own) from to place
+  module _ (at : ℕ) (segment : SegmentThere d s (from / segment_pages) at) where
+    pub shared_as_segment : at ≡ place → SomePage (SharedBy d s own) from to place
     shared_as_segment e = record { page = from; low = omega arith; high = some; is = inr (segment.reached from refl, segment.place from refl ∙ e) }
 
     -- where it is not the segment entry, it is a page's
@@ -49,55 +48,57 @@ module _ (d : ℕ) (s : List ℕ) (from to own place : ℕ) (some : from < to) (
     shared_by_page other h = ⊎_elim (λ w. w) (λ w. absurd (other (sym (segment.place h.page (in_segment h)) ∙ w.1))) h.is
 
     -- within its own segment an entry is no other page's
-    alone_in_segment : own / segment_pages ≡ from / segment_pages → (at ≡ place → ⊥) → SomePage (SharedBy d s own) from to place → ⊥
-    alone_in_segment same other h =
+    pub alone_in_segment : own / segment_pages ≡ from / segment_pages → page_place d s own ≡ place → (at ≡ place → ⊥)
+        → SomePage (SharedBy d s own) from to place → ⊥
+    alone_in_segment same is other h =
         let w = shared_by_page other h in w.0 (one_place d s h.page own (in_segment h ∙ sym same) (w.1.1 ∙ sym is))
 
-    shared_by_table : (own / segment_pages ≡ from / segment_pages → ⊥) → start ≤ place → place < end → (place - start) % 4 ≡ 0
-        → SomePage (SharedBy d s own) from to place
-    shared_by_table elsewhere low high whole =
-        let k = (place - start) / 4 in
-        let there : start + k * 4 ≡ place = omega arith in
-        let inside : k < table.count = omega (arith, table.whole) in
-        let there-own : (from + k) / segment_pages ≡ from / segment_pages = omega (arith, table.few) in
-        record {
-          page = from + k;
-          low = omega arith;
-          high = omega (arith, table.few);
-          is = inl (
-            λ e. elsewhere (ap (λ x. x / segment_pages) (sym e) ∙ there-own),
-            (table.reach k (omega (arith, table.few)) ∙ lt-ltb k table.count inside, table.place k inside ∙ there),
-          );
-        }
+    module _ (start end : ℕ) (table : TableAt d s from to start end) where
+      pub shared_by_table : (own / segment_pages ≡ from / segment_pages → ⊥) → start ≤ place → place < end → (place - start) % 4 ≡ 0
+          → SomePage (SharedBy d s own) from to place
+      shared_by_table elsewhere low high whole =
+          let k = (place - start) / 4 in
+          let there : start + k * 4 ≡ place = omega arith in
+          let inside : k < table.count = omega (arith, table.whole) in
+          let there-own : (from + k) / segment_pages ≡ from / segment_pages = omega (arith, table.few) in
+          record {
+            page = from + k;
+            low = omega arith;
+            high = omega (arith, table.few);
+            is = inl (
+              λ e. elsewhere (ap (λ x. x / segment_pages) (sym e) ∙ there-own),
+              (table.reach k (omega (arith, table.few)) ∙ lt-ltb k table.count inside, table.place k inside ∙ there),
+            );
+          }
 
-    table_tells : (at ≡ place → ⊥) → SomePage (SharedBy d s own) from to place → (start ≤ place) × ((place < end) × ((place - start) % 4 ≡ 0))
-    table_tells other h =
-        let w = shared_by_page other h in
-        let k = h.page - from in
-        let page : from + k ≡ h.page = omega (arith, h.low) in
-        let own-span : from + k < to = omega (arith, page, h.high) in
-        let inside : k < table.count = ltb-true k table.count (sym (table.reach k own-span) ∙ rw page w.1.0) in
-        let there : place ≡ start + k * 4 = sym w.1.1 ∙ rw page at (table.place k inside) in
-        (omega arith, (omega (arith, table.whole), omega arith))
+      pub table_tells : (at ≡ place → ⊥) → SomePage (SharedBy d s own) from to place → (start ≤ place) × ((place < end) × ((place - start) % 4 ≡ 0))
+      table_tells other h =
+          let w = shared_by_page other h in
+          let k = h.page - from in
+          let page : from + k ≡ h.page = omega (arith, h.low) in
+          let own-span : from + k < to = omega (arith, page, h.high) in
+          let inside : k < table.count = ltb-true k table.count (sym (table.reach k own-span) ∙ rw page w.1.0) in
+          let there : place ≡ start + k * 4 = sym w.1.1 ∙ rw page at (table.place k inside) in
+          (omega arith, (omega (arith, table.whole), omega arith))
 
-    -- so these tests tell
-    pub tells_by_tests : Tells (SomePage (SharedBy d s own) from to place)
-        (eqb at place || ((not (eqb (own / segment_pages) (from / segment_pages)) && (leb start place && ltb place end)) && eqb ((place - start) % 4) 0))
-    tells_by_tests = record {
-      so = λ e. ⊎_elim (λ same. shared_as_segment (eqb-true at place same))
-          (λ h.
-          let (there, whole) = both (not (eqb (own / segment_pages) (from / segment_pages)) && (leb start place && ltb place end)) _ h in
-          let (other, within) = both (not (eqb (own / segment_pages) (from / segment_pages))) _ there in
-          let (low, high) = both (leb start place) _ within in
-          shared_by_table (eqb-false _ _ (was_false _ other)) (leb-true start place low) (ltb-true place end high) (eqb-true _ 0 whole))
-          (or_cases (eqb at place) _ e);
-      never = λ e h.
-          let (no_segment, no_page) = or_parts (eqb at place) _ e in
-          let other = eqb-false at place no_segment in
-          let (low, (high, whole)) = table_tells other h in
-          let elsewhere = ne_eqb (own / segment_pages) (from / segment_pages) (λ same. alone_in_segment same other h) in
-          never_both (and_true (and_true (not_of elsewhere) (and_true (le-leb start place low) (lt-ltb place end high))) (eq-eqb _ 0 whole)) no_page;
-    }
+      -- so these tests tell
+      pub tells_by_tests : page_place d s own ≡ place → Tells (SomePage (SharedBy d s own) from to place)
+          (eqb at place || ((not (eqb (own / segment_pages) (from / segment_pages)) && (leb start place && ltb place end)) && eqb ((place - start) % 4) 0))
+      tells_by_tests is = record {
+        so = λ e. ⊎_elim (λ same. shared_as_segment (eqb-true at place same))
+            (λ h.
+            let (there, whole) = both (not (eqb (own / segment_pages) (from / segment_pages)) && (leb start place && ltb place end)) _ h in
+            let (other, within) = both (not (eqb (own / segment_pages) (from / segment_pages))) _ there in
+            let (low, high) = both (leb start place) _ within in
+            shared_by_table (eqb-false _ _ (was_false _ other)) (leb-true start place low) (ltb-true place end high) (eqb-true _ 0 whole))
+            (or_cases (eqb at place) _ e);
+        never = λ e h.
+            let (no_segment, no_page) = or_parts (eqb at place) _ e in
+            let other = eqb-false at place no_segment in
+            let (low, (high, whole)) = table_tells other h in
+            let elsewhere = ne_eqb (own / segment_pages) (from / segment_pages) (λ same. alone_in_segment same is other h) in
+            never_both (and_true (and_true (not_of elsewhere) (and_true (le-leb start place low) (lt-ltb place end high))) (eq-eqb _ 0 whole)) no_page;
+      }
 
 -- whether a place is in a range, as a range says it; asked only of another segment than one's own
 module _ (own index start end place : ℕ) (value : Bool) where

@@ -1,25 +1,26 @@
 -- Laws of Marking: marks that are added, one after the other; what is so of some page from one up to another; what an answer tells.
-use Prim.Native.Nat.{ℕ, ◌+◌, ◌-◌, ◌*◌, ◌/◌, ◌≤◌, ◌<◌}
+use Prim.Native.Nat.{ℕ, zero, suc, ◌+◌, ◌-◌, ◌*◌, ◌/◌, ◌≤◌, ◌<◌}
+use native.Mathlib.Numerals.{add-one}
 use native.Mathlib.Omega.{arith}
 use mathlib.Core.Path.{◌≡◌, refl, sym, ap, ◌∙◌, subst}
 use mathlib.Core.Bool.{Bool, true, false, cond, ◌&&◌, ◌||◌}
-use mathlib.Core.List.{List}
+use mathlib.Core.List.{List, ◌++◌}
 use mathlib.Core.Logic.{◌⊎◌, inl, inr, ⊎_elim}
 use borrow.Author.Tests.{ltb-true, ltb-false, lt-ltb, eqb-true, eqb-false}
 use lib.Dec.{eqb, ltb}
-use lib.ListN.{length, get_or, set, length-set}
+use lib.ListN.{length, get_or, set, take, drop, length-set}
 use lib.Seq.{get_or-set_same, get_or-set_other}
 use Rattle.std.proofs.lemmas.Bool.{or_cases, or_parts}
-use Rattle.std.proofs.lemmas.List.{set_past}
+use Rattle.std.proofs.lemmas.List.{set_past, length-append, length-drop, length-take-le, get_or_append_left, get_or-append_right, get_or-drop, get_or-take}
 use Rattle.machine.specs.Sizes.{frame_bytes, segment_pages}
 use Rattle.machine.specs.Refusals.{frames_of}
 use Rattle.machine.specs.Walk.{frame_of}
 use Rattle.machine.specs.Frames.{page_place}
 use Rattle.desk.specs.Reach.{page_valid}
 use Rattle.desk.proofs.Tables.{both, never_both, true_or_false, segment_of-reached}
-use Rattle.tables.specs.Tabling.{SegmentThere, SegmentMissed, TableAt, EntriesOf, entry_at, word_valid}
+use Rattle.tables.specs.Tabling.{SegmentThere, SegmentMissed, TableAt, EntriesOf, entry_at, word_valid, word_names}
 use Rattle.tables.proofs.Entries.{valid_by_table}
-use Rattle.survey.specs.Marking.{Marked, Added, EntryIn, Names, SomePage, Tells, EntryMarked}
+use Rattle.survey.specs.Marking.{Marked, noted, Added, EntryIn, Names, SomePage, Tells, EntryMarked}
 
 -- marks on frames
 
@@ -62,6 +63,33 @@ added_same P Q a b added to back = record {
   all = λ f q. added.all f (back f q);
 }
 
+-- marks added to the first `n`, and the others behind them as they were
+pub added_front : (P : ℕ → Type 0) (n : ℕ) (marks later : List Bool) → n ≤ length marks → ((f : ℕ) → P f → f < n) → Added P (take n marks) later
+    → Added P marks (later ++ drop n marks)
+added_front P n marks later room low added = record {
+  long = length-append later (drop n marks) ∙ simp length-drop (omega (arith, long));
+  new = λ f h. by_place f (λ e. ⊎_elim (λ k. inl (sym (front f e) ∙ k)) (λ p. inr p) (added.new f (sym (later_front f e) ∙ h))) (λ e. inl (sym (behind f e) ∙ h));
+  kept = λ f h. by_place f (λ e. later_front f e ∙ added.kept f (front f e ∙ h)) (λ e. behind f e ∙ h);
+  all = λ f p. later_front f (low f p) ∙ added.all f p;
+}
+  where
+    long : length later ≡ n
+    long = added.long ∙ length-take-le n marks room
+
+    later_front : (f : ℕ) → f < n → get_or (later ++ drop n marks) f false ≡ get_or later f false
+    later_front f e = get_or_append_left later (drop n marks) false f (omega (arith, long))
+
+    front : (f : ℕ) → f < n → get_or (take n marks) f false ≡ get_or marks f false
+    front f e = get_or-take n marks f false e
+
+    behind : (f : ℕ) → n ≤ f → get_or (later ++ drop n marks) f false ≡ get_or marks f false
+    behind f e =
+        let place : n + (f - n) ≡ f = omega arith in
+        get_or-append_right later (drop n marks) n f false long e ∙ get_or-drop n marks (f - n) false ∙ ap (λ i. get_or marks i false) place
+
+    by_place : {G : Type 0} (f : ℕ) → (f < n → G) → (n ≤ f → G) → G
+    by_place f first second = true_or_false _ (ltb f n) (λ e. first (ltb-true f n e)) (λ e. second (ltb-false f n e))
+
 -- one of the first `n` entries says a valid page with a frame of `frames`
 pub record Noted (n frames : ℕ) (entries : List (List ℕ)) (f : ℕ) : Type 0 where
   pub number : ℕ
@@ -74,7 +102,7 @@ pub noted_none : (frames : ℕ) (entries : List (List ℕ)) (marks : List Bool) 
 noted_none frames entries marks = added_none _ marks λ f h. omega (arith, h.low)
 
 -- one entry more
-module _ (n frames : ℕ) (entries : List (List ℕ)) (a b : List Bool) (long : length b ≡ frames) (earlier : Added (Noted n frames entries) a b) where
+module _ (n frames : ℕ) (entries : List (List ℕ)) (a b : List Bool) (room : frames ≤ length b) (earlier : Added (Noted n frames entries) a b) where
   abbrev entry : ℕ
   entry = entry_at entries n
 
@@ -98,14 +126,36 @@ module _ (n frames : ℕ) (entries : List (List ℕ)) (a b : List Bool) (long : 
       (λ e. inr (ap (λ k. frame_of (entry_at entries k)) (sym (eqb-true h.number n e)) ∙ h.is))
       (λ e. let other : h.number ≡ n → ⊥ = eqb-false h.number n e in inl (record { number = h.number; low = omega (arith, h.low, other); passes = h.passes; is = h.is; fits = h.fits })))
 
-  pub noted_more : Added (Noted (n + 1) frames entries) a (cond (word_valid entry) (set b (frame_of entry) true) b)
-  noted_more = true_or_false _ (word_valid entry)
+  pub frames_more : Added (Noted (n + 1) frames entries) a (cond (word_names frames entry) (set b (frame_of entry) true) b)
+  unfolding word_names
+  frames_more = true_or_false _ (word_valid entry)
       (λ valid. true_or_false _ (ltb (frame_of entry) frames)
-      (λ e. rw valid (one_frame_more valid (ltb-true _ _ e)))
-      (λ e.
-      let past : frames ≤ frame_of entry = ltb-false _ _ e in
-      rw (valid, set_past b (frame_of entry) true (omega arith)) (nothing_more λ _. past)))
+      (λ e. rw (valid, e) (one_frame_more valid (ltb-true _ _ e)))
+      (λ e. rw (valid, e) (nothing_more λ _. ltb-false _ _ e)))
       (λ valid. rw valid (nothing_more λ h. never_both h valid))
+
+-- so where there are as many marks as frames
+pub noted_more : (n frames : ℕ) (entries : List (List ℕ)) (a b : List Bool) → length b ≡ frames → Added (Noted n frames entries) a b
+    → Added (Noted (n + 1) frames entries) a (cond (word_valid (entry_at entries n)) (set b (frame_of (entry_at entries n)) true) b)
+noted_more n frames entries a b long earlier =
+    let entry = entry_at entries n in
+    let room : frames ≤ length b = omega arith in
+    true_or_false _ (word_valid entry)
+    (λ valid. true_or_false _ (ltb (frame_of entry) frames)
+    (λ e. rw valid (one_frame_more n frames entries a b room earlier valid (ltb-true _ _ e)))
+    (λ e.
+    let past : frames ≤ frame_of entry = ltb-false _ _ e in
+    rw (valid, set_past b (frame_of entry) true (omega arith)) (nothing_more n frames entries a b room earlier λ _. past)))
+    (λ valid. rw valid (nothing_more n frames entries a b room earlier λ h. never_both h valid))
+
+-- the marks with one more for each of the first `n` entries that names a frame of `frames`
+pub added-noted : (n frames : ℕ) (entries : List (List ℕ)) (marks : List Bool) → frames ≤ length marks
+    → Added (Noted n frames entries) marks (noted n (λ k. word_names frames (entry_at entries k)) (λ k. frame_of (entry_at entries k)) marks)
+unfolding noted
+added-noted zero frames entries marks room = noted_none frames entries marks
+added-noted (suc n) frames entries marks room =
+    let earlier = added-noted n frames entries marks room in
+    rw add-one at (frames_more n frames entries marks _ (omega (arith, earlier.long)) earlier)
 
 -- what is so of some page
 
@@ -164,6 +214,48 @@ module _ (d : ℕ) (s : List ℕ) (from to : ℕ) (entries : List (List ℕ)) (t
         fits = h.is.1.1;
       })
 
+  -- so for the marks with one more for each entry that names a frame of the storage
+  pub marks_noted : (marks : List Bool) → frames_of s ≤ length marks
+      → Added (SomePage (Names d s) from to) marks
+      (noted (length entries) (λ k. word_names (frames_of s) (entry_at entries k)) (λ k. frame_of (entry_at entries k)) marks)
+  marks_noted marks room = marks_of_names marks _ (added-noted (length entries) (frames_of s) entries marks room)
+
+-- one of `count` entries from a place on lies in a marked frame
+pub record IndexMarked (start count : ℕ) (marks : List Bool) : Type 0 where
+  pub number : ℕ
+  pub low : number < count
+  pub marked : Marked marks ((start + number * 4) / frame_bytes)
+
+-- the first and the last of so many entries lie where all of them lie
+
+pub first_or_last : (start count : ℕ) (marks : List Bool) → 0 < count → count ≤ segment_pages → IndexMarked start count marks
+    → Marked marks (start / frame_bytes) ⊎ Marked marks ((start + (count - 1) * 4) / frame_bytes)
+first_or_last start count marks full few h =
+    let at = (start + h.number * 4) / frame_bytes in
+    true_or_false _ (eqb at (start / frame_bytes))
+    (λ e. inl (subst (Marked marks) (eqb-true at _ e) h.marked))
+    (λ e.
+    let other : at ≡ start / frame_bytes → ⊥ = eqb-false at _ e in
+    let last : at ≡ (start + (count - 1) * 4) / frame_bytes = omega (arith, h.low, other) in
+    inr (subst (Marked marks) last h.marked))
+
+pub first_marked : (start count : ℕ) (marks : List Bool) → 0 < count → Marked marks (start / frame_bytes) → IndexMarked start count marks
+first_marked start count marks full h =
+    let same : start / frame_bytes ≡ (start + 0 * 4) / frame_bytes = omega arith in
+    record { number = 0; low = full; marked = subst (Marked marks) same h }
+
+pub last_marked : (start count : ℕ) (marks : List Bool) → 0 < count → Marked marks ((start + (count - 1) * 4) / frame_bytes) → IndexMarked start count marks
+last_marked start count marks full h = record { number = count - 1; low = omega arith; marked = h }
+
+-- a segment entry in a marked frame
+pub marked-segment : (d : ℕ) (s : List ℕ) (from to at : ℕ) (marks : List Bool) → from < to → SegmentThere d s (from / segment_pages) at
+    → Marked marks (at / frame_bytes) → EntryMarked d s from to marks
+marked-segment d s from to at marks some segment h = record {
+  frame = at / frame_bytes;
+  entry = record { page = from; low = omega arith; high = some; is = inl (segment.reached from refl, ap (λ x. x / frame_bytes) (segment.place from refl)) };
+  marked = h;
+}
+
 -- no entry of a segment whose own entry is out of reach
 pub none_marked : (d : ℕ) (s : List ℕ) (from to : ℕ) (marks : List Bool) → to ≤ from / segment_pages * segment_pages + segment_pages
     → SegmentMissed d s (from / segment_pages) → EntryMarked d s from to marks → ⊥
@@ -174,46 +266,25 @@ none_marked d s from to marks one segment h =
 -- the entries of a span, where its segment entry and its page entries stand
 module _ (d : ℕ) (s : List ℕ) (from to at start end : ℕ) (some : from < to) (one : to ≤ from / segment_pages * segment_pages + segment_pages)
     (segment : SegmentThere d s (from / segment_pages) at) (table : TableAt d s from to start end) (marks : List Bool) where
-  pub marked-segment : Marked marks (at / frame_bytes) → EntryMarked d s from to marks
-  marked-segment h = record {
-    frame = at / frame_bytes;
-    entry = record { page = from; low = omega arith; high = some; is = inl (segment.reached from refl, ap (λ x. x / frame_bytes) (segment.place from refl)) };
-    marked = h;
-  }
-
-  -- a page entry, by its distance from the first
-  page-marked : (k : ℕ) → k < table.count → Marked marks ((start + k * 4) / frame_bytes) → EntryMarked d s from to marks
-  page-marked k low h = record {
-    frame = (start + k * 4) / frame_bytes;
+  pub marked-table : IndexMarked start table.count marks → EntryMarked d s from to marks
+  marked-table h = record {
+    frame = (start + h.number * 4) / frame_bytes;
     entry = record {
-      page = from + k;
+      page = from + h.number;
       low = omega arith;
-      high = omega (arith, table.few);
-      is = inr (table.reach k (omega (arith, table.few)) ∙ lt-ltb k table.count low, ap (λ x. x / frame_bytes) (table.place k low));
+      high = omega (arith, h.low, table.few);
+      is = inr (table.reach h.number (omega (arith, h.low, table.few)) ∙ lt-ltb h.number table.count h.low, ap (λ x. x / frame_bytes) (table.place h.number h.low));
     };
-    marked = h;
+    marked = h.marked;
   }
-
-  -- they lie where the first and the last of them lie
-  first_or_last : (k : ℕ) → k < table.count → Marked marks ((start + k * 4) / frame_bytes) → Marked marks (start / frame_bytes) ⊎ Marked marks ((end - 4) / frame_bytes)
-  first_or_last k low h =
-      let at = (start + k * 4) / frame_bytes in
-      true_or_false _ (eqb at (start / frame_bytes))
-      (λ e. inl (subst (Marked marks) (eqb-true at _ e) h))
-      (λ e.
-      let other : at ≡ start / frame_bytes → ⊥ = eqb-false at _ e in
-      let last : at ≡ (end - 4) / frame_bytes = omega (arith, other, table.whole, table.few) in
-      inr (subst (Marked marks) last h))
 
   pub marked_first : start < end → Marked marks (start / frame_bytes) → EntryMarked d s from to marks
-  marked_first full h =
-      let same : start / frame_bytes ≡ (start + 0 * 4) / frame_bytes = omega arith in
-      page-marked 0 (omega (arith, table.whole)) (subst (Marked marks) same h)
+  marked_first full h = marked-table (first_marked start table.count marks (omega (arith, table.whole)) h)
 
   pub marked_last : start < end → Marked marks ((end - 4) / frame_bytes) → EntryMarked d s from to marks
   marked_last full h =
       let same : (end - 4) / frame_bytes ≡ (start + (table.count - 1) * 4) / frame_bytes = omega (arith, table.whole) in
-      page-marked (table.count - 1) (omega (arith, table.whole)) (subst (Marked marks) same h)
+      marked-table (last_marked start table.count marks (omega (arith, table.whole)) (subst (Marked marks) same h))
 
   pub marked-entry : EntryMarked d s from to marks
       → Marked marks (at / frame_bytes) ⊎ ((start < end) × (Marked marks (start / frame_bytes) ⊎ Marked marks ((end - 4) / frame_bytes)))
@@ -227,14 +298,20 @@ module _ (d : ℕ) (s : List ℕ) (from to at start end : ℕ) (some : from < to
       let inside : from + k < to = omega (arith, is, h.entry.high) in
       let low : k < table.count = ltb-true k table.count (sym (table.reach k inside) ∙ rw is w.0) in
       let place : page_place d s h.entry.page ≡ start + k * 4 = rw is at (table.place k low) in
-      inr (omega (arith, low, table.whole), first_or_last k low (subst (Marked marks) (sym w.1 ∙ ap (λ x. x / frame_bytes) place) h.marked)))
+      let found : IndexMarked start table.count marks =
+      record { number = k; low = low; marked = subst (Marked marks) (sym w.1 ∙ ap (λ x. x / frame_bytes) place) h.marked } in
+      let last : (start + (table.count - 1) * 4) / frame_bytes ≡ (end - 4) / frame_bytes = omega (arith, low, table.whole) in
+      inr (
+        omega (arith, low, table.whole),
+        ⊎_elim (λ m. inl m) (λ m. inr (subst (Marked marks) last m)) (first_or_last start table.count marks (omega (arith, low)) (omega (arith, table.few)) found),
+      ))
       h.entry.is
 
   -- so these tests tell
   pub tells_by_tests : Tells (EntryMarked d s from to marks)
       (get_or marks (at / frame_bytes) false || (ltb start end && (get_or marks (start / frame_bytes) false || get_or marks ((end - 4) / frame_bytes) false)))
   tells_by_tests = record {
-    so = λ e. ⊎_elim marked-segment
+    so = λ e. ⊎_elim (marked-segment d s from to at marks some segment)
         (λ h.
         let (full, either) = both (ltb start end) _ h in
         ⊎_elim (marked_first (ltb-true start end full)) (marked_last (ltb-true start end full)) (or_cases (get_or marks (start / frame_bytes) false) _ either))
@@ -261,6 +338,9 @@ pub marked_either : (d : ℕ) (s : List ℕ) (from mid to : ℕ) (marks : List B
 marked_either d s from mid to marks m =
     ⊎_elim (λ e. inl (record { frame = m.frame; entry = e; marked = m.marked })) (λ e. inr (record { frame = m.frame; entry = e; marked = m.marked }))
     (some_either (EntryIn d s) from mid to m.frame m.entry)
+
+pub marked-nowhere : (d : ℕ) (s : List ℕ) (from : ℕ) (marks : List Bool) → EntryMarked d s from from marks → ⊥
+marked-nowhere d s from marks m = some-nowhere (EntryIn d s) from m.frame m.entry
 
 -- an answer
 pub tells_yes : {P : Type 0} → P → Tells P true

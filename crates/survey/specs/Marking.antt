@@ -1,5 +1,5 @@
 -- Marks on frames, a truth each.
-use Rattle.std.specs.Prelude.{ℕ, ◌/◌, ◌≤◌, ◌<◌, ◌≡◌, Bool, true, false, List, ◌⊎◌, length, get_or}
+use Rattle.std.specs.Prelude.{ℕ, zero, suc, ◌/◌, ◌≤◌, ◌<◌, ◌≡◌, Bool, true, false, cond, List, ◌⊎◌, length, get_or, set}
 use Rattle.machine.specs.Sizes.{frame_bytes}
 use Rattle.machine.specs.Refusals.{frames_of}
 use Rattle.machine.specs.Walk.{frame_of}
@@ -8,6 +8,11 @@ use Rattle.desk.specs.Reach.{segment_reached, page_reached, page_valid}
 
 abbrev pub Marked : List Bool → ℕ → Type 0
 Marked marks f = get_or marks f false ≡ true
+
+-- marks with one more for each of the `n` first numbers that pass a test
+unfoldable pub noted : ℕ → (ℕ → Bool) → (ℕ → ℕ) → List Bool → List Bool
+noted zero test frame marks = marks
+noted (suc n) test frame marks = cond (test n) (set (noted n test frame marks) (frame n) true) (noted n test frame marks)
 
 -- the later marks are the earlier ones and those of the frames P
 pub record Added (P : ℕ → Type 0) (earlier later : List Bool) : Type 0 where

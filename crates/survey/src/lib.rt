@@ -2,7 +2,7 @@
 // read once for its pages, and a page entry once. Each contract goes by the tests of desk's Reach and Extent.
 #![tactic(auto)]
 
-ghost use Rattle.std.specs.Prelude.{◌≡◌, ◌/◌, cond, true, false, length, get_or, set};
+ghost use Rattle.std.specs.Prelude.{◌≡◌, ◌/◌, ◌≤◌, cond, true, false, length, get_or, set};
 ghost use Rattle.machine.specs.Refusals.{frames_of};
 ghost use Rattle.machine.specs.Sizes.{frame_bytes};
 ghost use Rattle.machine.specs.Walk.{frame_of};
@@ -41,11 +41,12 @@ fn mark_span(host: Host, span: Span, marks: &mut [bool])
     }
 }
 
-// So for host pages.
+// So for host pages. Marks behind those of the storage's frames stay.
 pub fn mark_pages(host: Host, pages: Pages, marks: &mut [bool])
-    requires { length marks.old ≡ frames_of host.storage.now }
+    requires { frames_of host.storage.now ≤ length marks.old }
     ensures { Added (SomePage (Names host.entry.designation host.entry.storage.now) pages.from pages.to) marks.old marks.new }
 {
+    let marks = &mut marks[..host.storage.len() / FRAME];
     for span in pages.spans() {
         mark_span(host, span, marks);
     }

@@ -73,3 +73,16 @@ module _ (d : ℕ) (s : List ℕ) (from to : ℕ) (entries : List (List ℕ)) (t
   pub shown_by_table : frame_listed d s (from + k) ≡ cond (ltb k (length entries)) (word_shown (entry_at entries k)) not_valid
   unfolding frame_listed word_shown
   shown_by_table = rw valid_by_table (true_or_false _ (ltb k (length entries)) (λ e. rw (e, entry_is e)) (λ e. rw e))
+
+-- a page by the word at which its entry stands
+module _ (d : ℕ) (s : List ℕ) (from to start end : ℕ) (told : TableAt d s from to start end) (k : ℕ) (own : from + k < to) where
+  word_is : ltb k told.count ≡ true → page_of d s (from + k) ≡ word_at s (start + k * 4)
+  word_is e = ap (word_at s) (told.place k (ltb-true _ _ e))
+
+  pub valid_by_word : page_valid d s (from + k) ≡ (ltb k told.count && word_valid (word_at s (start + k * 4)))
+  unfolding page_valid word_valid
+  valid_by_word = rw (told.reach k own) (same_and _ _ refl λ e. rw (word_is e))
+
+  pub shown_by_word : frame_listed d s (from + k) ≡ cond (ltb k told.count) (word_shown (word_at s (start + k * 4))) not_valid
+  unfolding frame_listed word_shown
+  shown_by_word = rw valid_by_word (true_or_false _ (ltb k told.count) (λ e. rw (e, word_is e)) (λ e. rw e))

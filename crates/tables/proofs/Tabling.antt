@@ -102,6 +102,15 @@ module _ (d : ℕ) (s : List ℕ) (from to at : ℕ) (there : SegmentThere d s (
     place = λ k h. place_by_word k (omega arith) ∙ omega arith;
   }
 
+-- the table of a whole segment says of every page of it whether its entry is in reach, and where it stands
+pub of_segment : (d : ℕ) (s : List ℕ) (index start end : ℕ) (t : TableAt d s (index * segment_pages) (index * segment_pages + segment_pages) start end)
+    → (page : ℕ) → page / segment_pages ≡ index
+    → (page_reached d s page ≡ ltb (page % segment_pages) t.count)
+    × (page % segment_pages < t.count → page_place d s page ≡ start + page % segment_pages * 4)
+of_segment d s index start end t page own =
+    let is : index * segment_pages + page % segment_pages ≡ page = omega arith in
+    (rw is at (t.reach (page % segment_pages) (omega arith)), λ low. rw is at (t.place (page % segment_pages) low))
+
 -- no page entry of a segment is in reach whose own entry is not
 pub none_of_missed : (d : ℕ) (s : List ℕ) (index : ℕ) → SegmentMissed d s index → (page : ℕ) → page / segment_pages ≡ index → page_reached d s page ≡ false
 unfolding page_reached

@@ -32,6 +32,13 @@ pub record TableAt (d : ℕ) (s : List ℕ) (from to start end : ℕ) : Type 0 w
   pub reach : (k : ℕ) → from + k < to → page_reached d s (from + k) ≡ ltb k count
   pub place : (k : ℕ) → k < count → page_place d s (from + k) ≡ start + k * 4
 
+-- from `start` up to `end` lies in the storage room for the page entries of the first of these pages
+pub record Inside (s : List ℕ) (from to start end : ℕ) : Type 0 where
+  pub count : ℕ
+  pub whole : start + count * 4 ≡ end
+  pub few : from + count ≤ to
+  pub fits : end ≤ length s
+
 -- the page entry of a host page is in reach, at this host absolute address
 pub record PageThere (d : ℕ) (s : List ℕ) (page at : ℕ) : Type 0 where
   pub reached : page_reached d s page ≡ true
@@ -50,6 +57,10 @@ word_valid e = not (page_invalid e) && not (page_malformed e)
 -- an entry in a listing
 unfoldable pub word_shown : ℕ → ℕ
 word_shown e = cond (word_valid e) (frame_of e) not_valid
+
+-- an entry that says a valid page with one of so many frames
+unfoldable pub word_names : ℕ → ℕ → Bool
+word_names frames e = word_valid e && ltb (frame_of e) frames
 
 -- an entry of those that are in reach, of four bytes each
 abbrev pub entry_at : List (List ℕ) → ℕ → ℕ

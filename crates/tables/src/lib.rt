@@ -2,8 +2,8 @@
 // contract equates with the tests of desk's Reach.
 #![tactic(auto)]
 
-ghost use Rattle.std.specs.Prelude.{◌≡◌, ℕ, ◌/◌, ◌+◌, ◌≤◌, ◌<◌, length, Some};
-ghost use Rattle.tables.specs.Tabling.{SegmentAt, SegmentThere, TableAt, EntriesOf, PageAt, word_valid};
+ghost use Rattle.std.specs.Prelude.{◌≡◌, ℕ, ◌/◌, ◌%◌, ◌+◌, ◌-◌, ◌≤◌, ◌<◌, length, Some};
+ghost use Rattle.tables.specs.Tabling.{SegmentAt, SegmentThere, TableAt, Inside, EntriesOf, PageAt, word_valid};
 
 mod spans;
 
@@ -27,10 +27,13 @@ impl<'a> Host<'a> {
         (index / 16 <= self.designation % 128 && at + 4 <= self.storage.len()).then_some(at)
     }
 
-    // Where the entries of a span's pages stand that are in reach, those of its first pages; the segment entry stands here.
+    // Where the entries of a span's pages stand that are in reach, those of its first pages; the segment entry stands here. So
+    // by any designation, and of pages at the same indexes of any segment whose entry stands here.
     pub fn table_at(self, at: usize, span: Span) -> Range<usize>
-        requires { SegmentThere self.designation self.storage.now (span.from / 256) at }
-        ensures { TableAt self.entry.designation self.entry.storage.now span.from span.to result.start result.end }
+        requires { at + 4 ≤ length self.storage.now }
+        ensures { ((d from to : ℕ) → from % 256 ≡ span.from % 256 → to - from ≡ span.to - span.from
+            → SegmentThere d self.entry.storage.now (from / 256) at → TableAt d self.entry.storage.now from to result.start result.end)
+            × Inside self.entry.storage.now span.from span.to result.start result.end }
     {
         let entry = words::word_at(self.storage, at);
         let base = (entry / 64 % 33554432 * 64) as usize;

@@ -1,6 +1,7 @@
 -- `sharing::span_shares` meets its contract.
 use Prim.Native.Nat.{◌/◌}
-use mathlib.Core.Path.{◌≡◌, sym, ◌∙◌}
+use native.Mathlib.Omega.{arith}
+use mathlib.Core.Path.{◌≡◌, refl, sym, ◌∙◌}
 use mathlib.Core.Bool.{not, ◌&&◌}
 use borrow.Author.Tests.{ne_eqb}
 use lib.Dec.{eqb, leb, ltb}
@@ -25,9 +26,9 @@ returns-then-contains c =
       | else-own-segment w ↦ in_own _ _ table.start table.end place _ (rw index at w.if-own-segment.false) (rw index at w.value-is)
     ] in
     let tests = sym within ∙ c.if-contains.true in
-    let other = ne_eqb c.in-Some.at place c.if-at-place.false in
+    let other = ne_eqb c.in-Some.at place (λ e. c.if-at-place.false (omega (arith, e))) in
     tells_as (rw (other, tests))
-    (tells_by_tests _ _ span.from span.to c.args.own place span.some span.one_segment _ table.start table.end segment c.table_at-table.ensures c.requires.1)
+    (tells_by_tests _ _ span.from span.to c.args.own place span.some span.one_segment _ segment table.start table.end (c.table_at-table.ensures.0 _ span.from span.to refl refl segment) c.requires.1)
 
 pub returns-else-contains : goal.returns-else-contains
 returns-else-contains c =
@@ -42,6 +43,6 @@ returns-else-contains c =
       | else-own-segment w ↦ in_own _ _ table.start table.end place _ (rw index at w.if-own-segment.false) (rw index at w.value-is)
     ] in
     let tests = sym within ∙ c.if-contains.false in
-    let other = ne_eqb c.in-Some.at place c.if-at-place.false in
+    let other = ne_eqb c.in-Some.at place (λ e. c.if-at-place.false (omega (arith, e))) in
     tells_as (rw (other, tests, c.if-contains.false))
-    (tells_by_tests _ _ span.from span.to c.args.own place span.some span.one_segment _ table.start table.end segment c.table_at-table.ensures c.requires.1)
+    (tells_by_tests _ _ span.from span.to c.args.own place span.some span.one_segment _ segment table.start table.end (c.table_at-table.ensures.0 _ span.from span.to refl refl segment) c.requires.1)

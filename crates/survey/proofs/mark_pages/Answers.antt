@@ -3,7 +3,7 @@ use Prim.Native.Nat.{◌≤◌}
 use native.Mathlib.Omega.{arith}
 use mathlib.Core.Path.{◌≡◌, ap, ◌∙◌}
 use Rattle.tables.specs.declared.spans.Spans.{Spans}
-use Rattle.survey.proofs.Marking.{added_none, added_pages, some-nowhere}
+use Rattle.survey.proofs.Marking.{added_none, added_pages, added_front, some-nowhere}
 use Rattle.survey.proofs.mark_pages.Goals as goal
 
 pub loop-span-init : goal.loop-span-init
@@ -28,4 +28,4 @@ loop-span-preserved c =
 pub returns : goal.returns
 returns c =
     let all : c.loop-span.span-iterator.from ≡ c.args.pages.to = omega (arith, c.in-None.ensures.steps) in
-    rw all at c.loop-span.invariant.1
+    added_front _ _ c.args.marks.now c.loop-span.marks (omega arith) (λ f p. omega (arith, p.is.1.1)) (rw all at c.loop-span.invariant.1)
