@@ -64,11 +64,12 @@ fn put_bytes(s: &mut [u8], a: usize, bytes: &[u8])
     s[a..a + bytes.len()].copy_from_slice(bytes);
 }
 
-pub fn put_half(s: &mut [u8], a: usize, x: u16)
+// The low 16 bits of a number are stored.
+pub fn put_half(s: &mut [u8], a: usize, x: u32)
     requires { a + 2 ≤ length s.old }
     ensures { s.new ≡ sets s.old a (half_bytes x) }
 {
-    put_bytes(s, a, &x.to_be_bytes());
+    put_bytes(s, a, &((x % 65536) as u16).to_be_bytes());
 }
 
 pub fn put_word(s: &mut [u8], a: usize, x: u32)
