@@ -142,6 +142,32 @@ pub fn put_cpu(r: &mut [u8], cpu: Cpu)
     put_registers(r, GENERAL, cpu.general);
 }
 
+// The interval timer's request byte, whose bit 0 is T.
+pub fn request_of(r: &[u8]) -> u8
+    requires { 208 ≤ length r.now }
+    ensures { result ≡ request_of r.now }
+{
+    r[REQUEST]
+}
+
+// The interval timer's residue.
+pub fn residue_of(r: &[u8]) -> u32
+    requires { 208 ≤ length r.now }
+    ensures { result ≡ residue_of r.now }
+{
+    words::word_at(r, RESIDUE)
+}
+
+// The interval timer's fields, put into the record.
+#[tactic(auto, unfolding(machine::specs::Record::with_interval, machine::specs::Record::with_request))]
+pub fn put_interval(r: &mut [u8], request: u8, residue: u32)
+    requires { 208 ≤ length r.old }
+    ensures { r.new ≡ with_interval request residue r.old }
+{
+    r[REQUEST] = request;
+    words::put_word(r, RESIDUE, residue);
+}
+
 // The interval timer's fields, where the timer is active.
 pub fn ticks_in(r: &[u8], timed: bool) -> Option<Ticks>
     requires { timed ≡ true → 208 ≤ length r.now }
@@ -149,8 +175,8 @@ pub fn ticks_in(r: &[u8], timed: bool) -> Option<Ticks>
 {
     if timed {
         Some(Ticks {
-            request: r[REQUEST],
-            residue: words::word_at(r, RESIDUE),
+            request: request_of(r),
+            residue: residue_of(r),
         })
     } else {
         None
@@ -158,14 +184,12 @@ pub fn ticks_in(r: &[u8], timed: bool) -> Option<Ticks>
 }
 
 // They are put back, where the timer is active.
-#[tactic(auto, unfolding(machine::specs::Record::with_interval, machine::specs::Record::with_request))]
 pub fn put_ticks(r: &mut [u8], ticks: Option<Ticks>)
     requires { IfSome ticks (λ t. 208 ≤ length r.old) }
     ensures { r.new ≡ with_ticks ticks r.old }
 {
     if let Some(t) = ticks {
-        r[REQUEST] = t.request;
-        words::put_word(r, RESIDUE, t.residue);
+        put_interval(r, t.request, t.residue);
     }
 }
 
@@ -177,11 +201,11 @@ fn put_fields(r: &mut [u8], code: u8, interruption: u16, address: u32, t: Text)
 {
     r[52] = code;
     r[53] = t.ilc;
-    words::put_half(r, 54, interruption);
+    words::put_half(r, 54, interruption as u32);
     words::put_word(r, 56, address);
-    words::put_half(r, 60, t.first);
-    words::put_half(r, 62, t.second);
-    words::put_half(r, 64, t.third);
+    words::put_half(r, 60, t.first as u32);
+    words::put_half(r, 62, t.second as u32);
+    words::put_half(r, 64, t.third as u32);
 }
 
 // The results of an interception without instruction text.
