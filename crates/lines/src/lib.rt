@@ -1,7 +1,8 @@
 // The line that a packed answer of run prints. Each contract equates with the definitions of specs/Line.
 #![tactic(auto)]
 
-ghost use Rattle.std.specs.Prelude.{◌≡◌, ◌+◌, ◌≤◌, ◌∷◌, ◌++◌};
+ghost use Rattle.std.specs.Prelude.{◌≡◌, ◌+◌, ◌≤◌, ◌∷◌, ◌++◌, length, take};
+ghost use Rattle.io.specs.Counts.{IsPrefixLen};
 ghost use Rattle.arrayvec.specs.ArrayString.{array_string_len};
 ghost use Rattle.lines.specs.Line.{space, decimal, line_bytes, refusal_line, end_line, packed_line};
 
@@ -15,8 +16,11 @@ const HOST_FAULT: u64 = Kind::HostFault as u64;
 
 const BUDGET_USED: u64 = Kind::BudgetUsed as u64;
 
+// Room for every line.
+pub const LINE: usize = 64;
+
 // A line, with room for every one.
-pub type Line = ArrayString<64>;
+pub type Line = ArrayString<LINE>;
 
 // A line goes on with a space and a number.
 fn put_number(line: &mut Line, n: u64)
@@ -65,4 +69,16 @@ pub fn packed_line(answer: u64) -> Line
         BUDGET_USED => end_line('B', number, units),
         _ => refusal_line(number),
     }
+}
+
+// Puts the line of a packed answer of run at the start of `line`, and answers how long it is.
+pub fn put_line(line: &mut [u8], answer: u64) -> usize
+    requires { line_bytes ≤ length line.old }
+    ensures prefix_len { IsPrefixLen result line.new }
+    ensures line_after { take result line.new ≡ packed_line answer }
+{
+    let text = packed_line(answer);
+    let bytes = text.as_bytes();
+    line[..bytes.len()].copy_from_slice(bytes);
+    bytes.len()
 }
