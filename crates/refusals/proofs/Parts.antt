@@ -88,6 +88,12 @@ pub interval_none : (r : List ℕ) → (length r ≡ long_length → ⊥) → in
 unfolding interval_verdict wrong_interval
 interval_none r other = rw (ne_eqb (length r) long_length other)
 
+-- the first of two verdicts accepts where both do
+pub first_accepted : (u v : Verdict) → first_refusal u v ≡ no_refusal → u ≡ no_refusal
+unfolding first_refusal
+first_accepted (Ok tt) v accepted = refl
+first_accepted (Err why) v accepted = accepted
+
 -- the verdicts, made of their parts
 
 pub check_parts : (r : List ℕ) → first_refusal (head_verdict r) (reserved_verdict r) ≡ check_verdict r
