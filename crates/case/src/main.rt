@@ -1,6 +1,6 @@
-// The program: reads one case file from standard input and prints the one line that it asks for. The run is drevokas_run, on the
-// file's parts, and the line is proved to be that of the definition's answer. A file is at most 33,008 bytes; of a longer input one byte
-// more is read, and so it is malformed.
+// The program: reads one case file from standard input and prints the one line that it asks for. The run is drevokas_run, on
+// copies of the file's parts, and the line is proved to be that of the definition's answer. A file is at most 33,008 bytes; of
+// a longer input one byte more is read, and so it is malformed.
 #![tactic(auto)]
 
 ghost use Rattle.std.specs.Prelude.{◌≡◌, IfOk, Some};
@@ -17,6 +17,8 @@ use std::io::{Read, Write};
 
 const ROOM: usize = 33009;
 
+const FRAME: usize = 4096;
+
 // Reads until the input ends or the file is full, and answers how much was read.
 fn read_input(reader: &mut impl Read, file: &mut [u8]) -> io::Result<usize>
     ensures { IfOk result (λ count. IsPrefixLen count file.new) }
@@ -31,21 +33,20 @@ fn read_input(reader: &mut impl Read, file: &mut [u8]) -> io::Result<usize>
     Ok(count)
 }
 
-// The run of a well-formed case file, on its record, keys and frames.
-fn run_parts(file: &mut [u8], c: Case) -> u64
-    requires { case_of file.old ≡ Some c }
-    ensures { result ≡ packed_answer (answer_of file.old) (table_of file.old) }
+// The run of a well-formed case file, on copies of its record, keys and frames.
+fn run_parts(file: &[u8], c: Case) -> u64
+    requires { case_of file.now ≡ Some c }
+    ensures { result ≡ packed_answer (answer_of file.now) (table_of file.now) }
 {
     let size = cases::record_size(file);
-    let (_, rest) = file.split_at_mut(cases::RECORD);
-    let (record, rest) = rest.split_at_mut(size);
-    let (_, rest) = rest.split_at_mut(1);
-    let (keys, frames) = rest.split_at_mut(c.count);
+    let mut record = cases::record_of(file);
+    let mut keys = cases::keys_of(file, c.count);
+    let mut frames = cases::storage_of(file, c.count);
     let n = c.numbers;
     drevokas::drevokas_run(
-        record,
-        frames,
-        keys,
+        &mut record[..size],
+        &mut frames[..c.count * FRAME],
+        &mut keys[..c.count],
         n.designation,
         n.clock,
         n.time,
@@ -55,8 +56,8 @@ fn run_parts(file: &mut [u8], c: Case) -> u64
 }
 
 // Runs a case file: the packed answer of run, or refusal 9.
-fn run_case(file: &mut [u8]) -> u64
-    ensures { result ≡ packed_answer (answer_of file.old) (table_of file.old) }
+fn run_case(file: &[u8]) -> u64
+    ensures { result ≡ packed_answer (answer_of file.now) (table_of file.now) }
 {
     match cases::parse(file) {
         None => packing::pack_refusal(Refusal::Malformed),
@@ -65,8 +66,8 @@ fn run_case(file: &mut [u8]) -> u64
 }
 
 // Runs a case file: the line that it prints.
-fn case_line(file: &mut [u8]) -> Line
-    ensures { result.bytes ≡ line_of (answer_of file.old) }
+fn case_line(file: &[u8]) -> Line
+    ensures { result.bytes ≡ line_of (answer_of file.now) }
 {
     lines::packed_line(run_case(file))
 }
@@ -75,6 +76,6 @@ fn case_line(file: &mut [u8]) -> Line
 fn main(rt: HostRuntime) -> io::Result<()> {
     let mut file = [0; ROOM];
     let count = read_input(&mut rt.stdin(), &mut file)?;
-    let line = case_line(&mut file[..count]);
+    let line = case_line(&file[..count]);
     rt.stdout().write_all(line.as_bytes())
 }

@@ -1,8 +1,9 @@
-// Case files: the parser. A file is any slice. Each contract equates with the definitions of specs/CaseFile.
+// Case files: the parser, and copies of a file's parts. A file is any slice. Each contract equates with the definitions of
+// specs/CaseFile.
 #![tactic(auto)]
 
-ghost use Rattle.std.specs.Prelude.{◌≡◌, ◌≤◌, length};
-ghost use Rattle.cases.specs.CaseFile.{record_size, numbers_of, case_of};
+ghost use Rattle.std.specs.Prelude.{◌≡◌, true, ◌*◌, ◌≤◌, length, take};
+ghost use Rattle.cases.specs.CaseFile.{record_size, count_of, numbers_of, record_of, keys_of, storage_of, well_formed, case_of};
 
 use machine::Numbers;
 
@@ -24,6 +25,8 @@ const LEAST: usize = 224;
 const FRAME: usize = 4096;
 
 const MOST_FRAMES: usize = 8;
+
+const MOST_BYTES: usize = MOST_FRAMES * FRAME;
 
 // The sizes of the record.
 const SHORT_RECORD: usize = 200;
@@ -86,4 +89,40 @@ pub fn parse(file: &[u8]) -> Option<Case>
     } else {
         None
     }
+}
+
+// The record of a case file, at the start.
+pub fn record_of(file: &[u8]) -> [u8; LONG_RECORD]
+    requires { well_formed file.now ≡ true }
+    ensures { (length result ≡ 208) × (take (record_size file.now) result ≡ record_of file.now) }
+{
+    let mut part = [0; LONG_RECORD];
+    let end = RECORD + record_size(file);
+    part[..end - RECORD].copy_from_slice(&file[RECORD..end]);
+    part
+}
+
+// The keys of a case file, at the start.
+pub fn keys_of(file: &[u8], count: usize) -> [u8; MOST_FRAMES]
+    requires file_value { well_formed file.now ≡ true }
+    requires count_value { count ≡ count_of file.now }
+    ensures { (length result ≡ 8) × (take count result ≡ keys_of file.now) }
+{
+    let mut part = [0; MOST_FRAMES];
+    let at = RECORD + record_size(file) + 1;
+    let end = at + count;
+    part[..count].copy_from_slice(&file[at..end]);
+    part
+}
+
+// The frames of a case file, at the start.
+pub fn storage_of(file: &[u8], count: usize) -> [u8; MOST_BYTES]
+    requires file_value { well_formed file.now ≡ true }
+    requires count_value { count ≡ count_of file.now }
+    ensures { (length result ≡ 32768) × (take (count * 4096) result ≡ storage_of file.now) }
+{
+    let mut part = [0; MOST_BYTES];
+    let at = RECORD + record_size(file) + 1 + count;
+    part[..count * FRAME].copy_from_slice(&file[at..]);
+    part
 }

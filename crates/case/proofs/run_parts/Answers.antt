@@ -1,10 +1,9 @@
--- `case::run_parts` meets its contract. The parts stand one behind the other.
+-- `case::run_parts` meets its contract.
 use native.Mathlib.Omega.{arith}
-use mathlib.Core.Path.{◌≡◌}
-use lib.ListN.{drop}
-use Rattle.std.proofs.lemmas.List.{drop-drop}
-use Rattle.cases.specs.CaseFile.{record_at, record_size, count_at, count_of, keys_at, record_of, keys_of, storage_of}
-use Rattle.cases.proofs.CaseFiles.{size_least, good_length, good_case, run_of_parts}
+use mathlib.Core.Path.{ap, sym, ◌∙◌}
+use lib.ListN.{take}
+use lib.Seq.{length-take-le}
+use Rattle.cases.proofs.CaseFiles.{size_least, size_most, good_length, good_case, few, run_of_parts}
 use Rattle.case.proofs.run_parts.Goals as goal
 
 pub record_size-size-requires : goal.record_size-size-requires
@@ -12,54 +11,37 @@ record_size-size-requires c =
     let file = c.args.file.now in
     omega (arith, good_length file (good_case file _ c.requires).0, size_least file)
 
-pub split_at_mut-rest-requires : goal.split_at_mut-rest-requires
-split_at_mut-rest-requires c = omega (arith, good_length c.args.file.now (good_case _ _ c.requires).0)
+pub record_of-record-requires : goal.record_of-record-requires
+record_of-record-requires c = (good_case _ _ c.requires).0
 
-pub split_at_mut-record-requires : goal.split_at_mut-record-requires
-split_at_mut-record-requires c =
-    omega (arith, good_length c.args.file.now (good_case _ _ c.requires).0, c.record_size-size.ensures, c.split_at_mut-rest.ensures.back_len)
+pub keys_of-keys-requires : goal.keys_of-keys-requires
+keys_of-keys-requires c = let good = good_case _ _ c.requires in record { file_value = good.0; count_value = good.2 }
 
-pub split_at_mut-rest-requires-2 : goal.split_at_mut-rest-requires-2
-split_at_mut-rest-requires-2 c =
-    omega (
-      arith,
-      good_length c.args.file.now (good_case _ _ c.requires).0,
-      c.record_size-size.ensures,
-      c.split_at_mut-rest.ensures.back_len,
-      c.split_at_mut-record.ensures.back_len,
-    )
+pub storage_of-frames-requires : goal.storage_of-frames-requires
+storage_of-frames-requires c = let good = good_case _ _ c.requires in record { file_value = good.0; count_value = good.2 }
 
-pub split_at_mut-keys-requires : goal.split_at_mut-keys-requires
-split_at_mut-keys-requires c =
-    let good = good_case c.args.file.now _ c.requires in
-    omega (
-      arith,
-      good_length c.args.file.now good.0,
-      good.2,
-      c.record_size-size.ensures,
-      c.split_at_mut-rest.ensures.back_len,
-      c.split_at_mut-record.ensures.back_len,
-      c.split_at_mut-rest-2.ensures.back_len,
-    )
+pub overflow_mul-frames : goal.overflow_mul-frames
+overflow_mul-frames c = omega (arith, few _ _ c.requires)
+
+pub slice_bounds-record-end : goal.slice_bounds-record-end
+slice_bounds-record-end c = omega (arith, c.record_size-size.ensures, size_most c.args.file.now, c.record_of-record.ensures.0)
+
+pub slice_bounds-drevokas_run-end : goal.slice_bounds-drevokas_run-end
+slice_bounds-drevokas_run-end c = sym (length-take-le _ _ (omega (arith, c.record_size-size.ensures, size_most c.args.file.now, c.record_of-record.ensures.0)))
+
+pub slice_bounds-frames-end : goal.slice_bounds-frames-end
+slice_bounds-frames-end c = omega (arith, few _ _ c.requires, c.storage_of-frames.ensures.0)
+
+pub slice_bounds-drevokas_run-end-2 : goal.slice_bounds-drevokas_run-end-2
+slice_bounds-drevokas_run-end-2 c = sym (length-take-le _ _ (omega (arith, few _ _ c.requires, c.storage_of-frames.ensures.0)))
+
+pub slice_bounds-keys-end : goal.slice_bounds-keys-end
+slice_bounds-keys-end c = omega (arith, few _ _ c.requires, c.keys_of-keys.ensures.0)
+
+pub slice_bounds-drevokas_run-end-3 : goal.slice_bounds-drevokas_run-end-3
+slice_bounds-drevokas_run-end-3 c = sym (length-take-le _ _ (omega (arith, few _ _ c.requires, c.keys_of-keys.ensures.0)))
 
 pub returns : goal.returns
 returns c =
-    let file = c.args.file.now in
-    let good = good_case file _ c.requires in
-    let own : c.split_at_mut-record.result.0.now ≡ record_of file =
-    rw (c.split_at_mut-record.ensures.front, c.split_at_mut-rest.ensures.back, c.record_size-size.ensures) in
-    let rest : c.split_at_mut-rest-2.result.1.now ≡ drop (keys_at file) file =
-    rw (
-      c.split_at_mut-rest-2.ensures.back,
-      c.split_at_mut-record.ensures.back,
-      c.split_at_mut-rest.ensures.back,
-      c.record_size-size.ensures,
-      drop-drop (record_size file) record_at file,
-      drop-drop 1 (count_at file) file,
-    )
-    in
-    let keys : c.split_at_mut-keys.result.0.now ≡ keys_of file = rw (c.split_at_mut-keys.ensures.front, rest, good.2) in
-    let frames : c.split_at_mut-keys.result.1.now ≡ storage_of file =
-    rw (c.split_at_mut-keys.ensures.back, rest, good.2, drop-drop (count_of file) (keys_at file) file) in
-    let same = run_of_parts file _ c.requires own frames keys in
+    let same = run_of_parts _ _ c.requires (ap (λ n. take n c.record_of-record.result) c.record_size-size.ensures ∙ c.record_of-record.ensures.1) c.storage_of-frames.ensures.1 c.keys_of-keys.ensures.1 in
     rw (← same.0, ← same.1) c.drevokas_run.ensures.answer
