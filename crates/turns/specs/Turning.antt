@@ -25,6 +25,15 @@ Low Area = Unit {0}
 Low (Denied store a) = a < 2147483648
 Low Other = Unit {0}
 
+-- the address that the next turn is for, where it is for one, is this one
+abbrev pub Asks : Next → ℕ → Type 0
+Asks Lap at = Unit {0}
+Asks Single at = Unit {0}
+Asks (Block single store a) at = a ≡ at
+Asks Area at = Unit {0}
+Asks (Denied store a) at = a ≡ at
+Asks Other at = Unit {0}
+
 -- the table that keeps no block
 abbrev pub none_kept : List ℕ
 none_kept = replicate 32 2147483648
@@ -46,6 +55,7 @@ pub record Lapped (timed : Bool) (time : ℕ) (s : Stand) (l : Left) (r : Stand)
   pub fresh : 0 < l.units → r.tries ≡ 0
   pub tried : l.units ≡ 0 → r.tries ≡ s.tries + 1
   pub small : l.a < 2147483648 → Low r.next
+  pub wanted : Asks r.next l.a
   pub area : r.area ≡ s.area
 
 -- after a turn in which no unit was done

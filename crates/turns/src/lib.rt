@@ -7,7 +7,7 @@ ghost use Rattle.machine.specs.Interval.{period};
 ghost use Rattle.machine.specs.Record.{Sixteen};
 ghost use Rattle.calm.specs.Calming.{residues};
 ghost use Rattle.special.specs.Performing.{Below};
-ghost use Rattle.turns.specs.Turning.{Low, Lapped, Stays, is_calm, Passed};
+ghost use Rattle.turns.specs.Turning.{Low, Asks, Lapped, Stays, is_calm, Passed};
 
 use lap::Lap;
 use machine::{Guest, Psw};
@@ -60,9 +60,9 @@ fn most_after(most: u32, next: Next, tries: u32) -> u32
     }
 }
 
-// The turn after a lap.
+// The turn after a lap. A block is the one at the address that the lap wants.
 fn next_after(l: Lap) -> Next
-    ensures { l.a < 2147483648 → Low result }
+    ensures { (l.a < 2147483648 → Low result) × Asks result l.a }
 {
     match l.want {
         lap::DONE => Next::Lap,
