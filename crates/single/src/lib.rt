@@ -10,6 +10,7 @@ ghost use Rattle.psws.specs.Psws.{state, Wrapped};
 ghost use Rattle.blocks.specs.Keeping.{Inside};
 ghost use Rattle.lap.specs.Stepping.{cut};
 ghost use Rattle.area.specs.Keeping.{InStorage};
+ghost use Rattle.special.specs.declared.Change.TheVariants.{Called};
 ghost use Rattle.special.specs.Performing.{Below, IfCalm, psw_in, Near};
 ghost use Rattle.special.specs.Singling.{start, Singles};
 ghost use Rattle.single.specs.Deciding.{KindIs, alignment_of, is_tested, stopped_of, sum_of, Operates, Calls};
@@ -102,7 +103,7 @@ fn operand(storage: &[u8], words: &[u32; 16], at: usize, long: bool) -> usize
 // SUPERVISOR CALL (SVC) with this number.
 fn call(storage: &mut [u8], area: u32, guest: Guest, psw: Psw, timer: u64, number: u32) -> Single
     requires { (number < 256) × InStorage storage.old area }
-    ensures calls { IfOk result (λ d. Calls guest area psw timer number storage.old d storage.new × (d.timer ≡ timer) × IfCalm d.change ⊥) }
+    ensures calls { IfOk result (λ d. Calls guest area psw timer number storage.old d storage.new × (d.timer ≡ timer) × (d.change ≡ Called)) }
     ensures wants { IfErr result (λ w. (storage.new ≡ storage.old) × Below w) }
 {
     if cpu::intercepts_svc(guest, number) {

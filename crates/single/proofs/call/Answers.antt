@@ -16,5 +16,5 @@ returns-clause-calls c =
       called_leaves a.guest a.area a.psw a.timer a.number a.storage.now new.result new.new.storage
           (sym c.intercepts_svc.ensures ∙ c.if-intercepts_svc.false) (omega (arith, c.if-area-ge-NO_AREA.false)) new.ensures,
       refl,
-      tt,
+      refl,
     )

@@ -1,7 +1,7 @@
 -- `single::unit` meets its contract.
 use Prim.Native.Nat.{ℕ, ◌+◌, ◌<◌}
 use native.Mathlib.Omega.{arith}
-use mathlib.Core.Path.{◌≡◌, refl, subst}
+use mathlib.Core.Path.{◌≡◌, refl, sym, subst}
 use mathlib.Core.List.{List}
 use Rattle.std.proofs.lemmas.Result.{IfOk-weaker, IfErr-weaker}
 use lib.ListN.{get_or}
@@ -11,6 +11,7 @@ use Rattle.machine.specs.Psw.{instruction_address}
 use Rattle.psws.specs.Psws.{state}
 use Rattle.lap.specs.declared.Landing.{Landing}
 use Rattle.lap.specs.Stepping.{Lands}
+use Rattle.special.specs.Performing.{IfCalm}
 use Rattle.single.specs.Deciding.{KindIs}
 use Rattle.single.proofs.Meeting.{calm_so}
 use Rattle.single.proofs.Singling.{address_small, text_inside, operates_singles, calls_singles}
@@ -60,11 +61,11 @@ returns-in-Svc-clause-singles c =
     let at = c.in-Some.text.at in
     let unit = c.call in
     let kind = subst (KindIs (get_or a.storage.now at 0) (get_or a.storage.now (at + 1) 0)) c.in-Svc.is c.kind_of.ensures in
-    IfOk-weaker unit.result _ _ (λ d (calls, time, calm). (
+    IfOk-weaker unit.result _ _ (λ d (calls, time, called). (
       calls_singles a.storage.now a.kept.now c.requires.0 a.psw c.in-Some.text (found a.psw a.kept.now _ c.in-Some.text c.instruction_address-address.ensures (c.land.ensures c.in-Some.text c.in-Some.is)) (omega (arith, c.if-at-text.false)) a.words.now c.requires.1.long
           a.guest a.clock a.timer a.control.now a.area d a.control.now unit.new.storage _ (get_or a.storage.now (at + 1) 0) refl refl (omega arith)
           kind time refl calls,
-      calm_so d.change (λ never. absurd never) calm,
+      calm_so d.change (λ never. absurd never) (subst (λ change. IfCalm change ⊥) (sym called) tt),
     )) unit.ensures.calls
 
 pub returns-in-Svc-clause-wants : goal.returns-in-Svc-clause-wants
