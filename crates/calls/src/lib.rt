@@ -4,6 +4,7 @@
 ghost use Rattle.std.specs.Prelude.{◌≡◌, false, ◌+◌, ◌≤◌, ◌<◌, length};
 ghost use Rattle.std.proofs.lemmas.List.Edits.{sets};
 ghost use Rattle.machine.specs.declared.Cpu.{Cpu};
+ghost use Rattle.machine.specs.Words.{word_bytes};
 ghost use Rattle.machine.specs.Record.{psw_of};
 ghost use Rattle.machine.specs.Interruptions.{fields_beside, exception};
 ghost use Rattle.machine.specs.Execute.{supervisor_call};
@@ -14,15 +15,23 @@ ghost use Rattle.calls.specs.Storing.{InOrder, areas_stored};
 use interruptions::Interruption;
 use machine::{Failure, Psw};
 
+// Stores a word. The writer is lent the word's own part of storage.
+fn put(storage: &mut [u8], from: usize, value: u32)
+    requires { from + 4 ≤ length storage.old }
+    ensures { storage.new ≡ sets storage.old from (word_bytes value) }
+{
+    writer::put_part(&mut storage[from..from + 4], &value.to_be_bytes());
+}
+
 // Stores the code fields of an interruption. A BC PSW takes ILC and code up itself, and nothing is stored beside it.
 fn put_fields(storage: &mut [u8], base: usize, psw: Psw, i: Interruption)
     requires { base + i.code + 8 ≤ length storage.old }
     ensures { (c : Cpu) → c.psw ≡ psw → storage.new ≡ sets storage.old (base + i.code) (fields_beside c (fields_of i)) }
 {
     if !cpu::basic_control(psw) {
-        words::put_word(storage, base + i.code as usize, i.word);
+        put(storage, base + i.code as usize, i.word);
         if let Some(address) = i.address {
-            words::put_word(storage, base + i.code as usize + 4, address);
+            put(storage, base + i.code as usize + 4, address);
         }
     }
 }
@@ -33,7 +42,8 @@ fn put_areas(storage: &mut [u8], base: usize, psw: Psw, i: Interruption)
     ensures { (c : Cpu) → c.psw ≡ psw → storage.new ≡ areas_stored storage.old base c i }
 {
     let old = cpu::old_psw(psw, i.word / 131072 % 4, i.word % 65536);
-    words::put_psw(storage, base + i.old as usize, old);
+    put(storage, base + i.old as usize, old.left);
+    put(storage, base + i.old as usize + 4, old.right);
     put_fields(storage, base, psw, i);
 }
 
