@@ -80,3 +80,51 @@ pub fn keep_block(
     let next = next_of(good, single, store, a);
     turns::again(s, next, place)
 }
+
+// The block that a turn is for: whether a unit that a lap does not do wants it, whether to store into, and the address. That of
+// a denial is such a unit's; a turn for no block has the one at address 0, for a lap to fetch from.
+fn wanted(next: Next) -> (bool, bool, u32)
+    requires { Low next }
+    ensures { result.2 < 2147483648 }
+{
+    match next {
+        Next::Block { single, store, a } => (single, store, a),
+        Next::Denied { store, a } => (true, store, a),
+        _ => (false, false, 0),
+    }
+}
+
+// Keeps the place of the prefix page, or the block that is wanted. Behind it comes what wanted it, or what the denial comes to.
+// Inlined, so that guest and stand are not copied for a second call.
+#[inline(always)]
+pub fn keep_turn(
+    storage: &[u8],
+    keys: &[u8],
+    guard: &mut [u8; 64],
+    kept: &mut [u32; 32],
+    control: &[u32; 16],
+    designation: u32,
+    guest: Guest,
+    s: Stand,
+) -> Stand
+    requires { Entered guest × (frames_of storage.now ≤ length keys.now) × Low s.next × (s.tries ≤ 7) }
+    ensures { Keeping designation guest s control.now storage.now keys.now guard.old kept.old result guard.new kept.new }
+{
+    if matches!(s.next, Next::Area) {
+        return keep_area(storage, keys, guard, kept, designation, guest, s);
+    }
+    let (single, store, a) = wanted(s.next);
+    keep_block(
+        storage,
+        keys,
+        guard,
+        kept,
+        control,
+        designation,
+        guest,
+        s,
+        single,
+        store,
+        a,
+    )
+}

@@ -106,16 +106,7 @@ fn run_streak(
                 let l = lap::units(storage, &mut general.words, &kept, s.psw, s.most);
                 turns::lapped(timed, time, s, l)
             }
-            Next::Area => keeping::keep_area(
-                storage,
-                keys,
-                &mut guard,
-                &mut kept,
-                designation,
-                guest,
-                s,
-            ),
-            Next::Block { single, store, a } => keeping::keep_block(
+            Next::Area | Next::Block { .. } => keeping::keep_turn(
                 storage,
                 keys,
                 &mut guard,
@@ -124,9 +115,6 @@ fn run_streak(
                 designation,
                 guest,
                 s,
-                single,
-                store,
-                a,
             ),
             Next::Denied { store, a } => {
                 let cr0 = control.words[0];

@@ -55,18 +55,12 @@ loop-s-preserved-in-Lap c =
 pub loop-s-smaller-in-Area : goal.loop-s-smaller-in-Area
 loop-s-smaller-in-Area c =
     let s = c.loop-s.s in
-    falls_stays c.args.budget s c.keep_area-s.result (c.loop-s.invariant.few c.loop-s-test.true) (c.keep_area-s.ensures c.loop-s.control.words).stays
+    falls_stays c.args.budget s c.keep_turn-s.result (c.loop-s.invariant.few c.loop-s-test.true) c.keep_turn-s.ensures.stays
 
 pub loop-s-preserved-in-Area : goal.loop-s-preserved-in-Area
 loop-s-preserved-in-Area c =
     let a = c.args in
-    let keep = c.keep_area-s in
-    onward_keeping (course a.designation a.guest a.clock a.time a.budget a.start a.requested a.residue a.storage.now a.keys.now) c.loop-s.s _ c.loop-s.invariant keep.result _ _ (keep.ensures c.loop-s.control.words)
-
-pub loop-s-preserved-in-Block : goal.loop-s-preserved-in-Block
-loop-s-preserved-in-Block c =
-    let a = c.args in
-    let keep = c.keep_block-s in
+    let keep = c.keep_turn-s in
     onward_keeping (course a.designation a.guest a.clock a.time a.budget a.start a.requested a.residue a.storage.now a.keys.now) c.loop-s.s _ c.loop-s.invariant keep.result _ _ keep.ensures
 
 pub loop-s-preserved-in-Denied : goal.loop-s-preserved-in-Denied
