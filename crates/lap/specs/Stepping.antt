@@ -1,5 +1,5 @@
 -- One unit of a lap, by numbers: the place of its instruction, the last sum, the general registers.
-use Rattle.std.specs.Prelude.{◌≡◌, ℕ, ◌+◌, ◌-◌, ◌/◌, ◌%◌, ◌^◌, ◌<◌, ◌≤◌, Bool, false, cond, ◌&&◌, ◌⊎◌, List, ◌==◌, nat_lt, slice_index, slice_set}
+use Rattle.std.specs.Prelude.{◌≡◌, ℕ, ◌+◌, ◌-◌, ◌/◌, ◌%◌, ◌^◌, ◌<◌, ◌≤◌, Bool, false, cond, ◌&&◌, ◌⊎◌, List, [], ◌∷◌, ◌==◌, nat_lt, slice_index, slice_set}
 use Rattle.std.proofs.lemmas.List.Edits.{sets}
 use Rattle.machine.specs.declared.Guest.{Guest}
 use Rattle.machine.specs.declared.Psw.{Psw}
@@ -63,7 +63,11 @@ step_to at sum register value = record { want = done; a = 0; at = at; sum = sum;
 abbrev pub step_wants : ℕ → ℕ → ℕ → ℕ → Step
 step_wants want a at sum = record { want = want; a = a; at = at; sum = sum; register = no_register; value = 0 }
 
--- the content of a base or index register: register 0 stands for zero
+-- what a base or index register's content is multiplied by: register 0 stands for zero
+abbrev pub flags : List ℕ
+flags = 0 ∷ 1 ∷ 1 ∷ 1 ∷ 1 ∷ 1 ∷ 1 ∷ 1 ∷ 1 ∷ 1 ∷ 1 ∷ 1 ∷ 1 ∷ 1 ∷ 1 ∷ 1 ∷ []
+
+-- the content of a base or index register
 abbrev pub part_of : List ℕ → ℕ → ℕ
 part_of words r = cond (r == 0) 0 (slice_index words r)
 
