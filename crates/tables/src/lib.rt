@@ -7,7 +7,7 @@ ghost use Rattle.tables.specs.Tabling.{SegmentAt, SegmentThere, TableAt, Inside,
 
 mod spans;
 
-pub use spans::{Pages, Span, Spans};
+pub use spans::{Pages, Span, Spans, segment_end};
 use std::ops::Range;
 
 // A storage, and the designation of the segment table in it.

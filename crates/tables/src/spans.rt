@@ -10,6 +10,14 @@ const SEGMENT: u32 = 256;
 
 const BLOCK: u32 = 16;
 
+// Where the pages of a page's segment end, or an earlier end.
+pub fn segment_end(page: u32, to: u32) -> u32
+    requires { (page < to) × (to ≤ 524288) }
+    ensures { (page < result) × ((result ≤ to) × (result ≤ page / 256 * 256 + 256)) }
+{
+    to.min(page / SEGMENT * SEGMENT + SEGMENT)
+}
+
 // Host pages of one segment, from one up to another.
 #[derive(Clone, Copy)]
 pub struct Span {
@@ -107,7 +115,7 @@ impl Iterator for Spans {
             return None;
         }
         let from = self.from;
-        self.from = self.to.min(from / SEGMENT * SEGMENT + SEGMENT);
+        self.from = segment_end(from, self.to);
         Some(Span {
             from,
             to: self.from,
