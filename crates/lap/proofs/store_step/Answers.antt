@@ -1,6 +1,5 @@
 -- `lap::store_step` meets its contract.
-use Rattle.std.proofs.Common.{◌+◌, ◌∙◌, ◌^◌, ◌<◌, get_or, arith, le-ltb, lt-ltb, rules}
-use Rattle.machine.specs.Words.{word_bytes}
+use Rattle.std.proofs.Common.{◌+◌, ◌∙◌, ◌^◌, ◌<◌, get_or, le-ltb, lt-ltb, rules}
 use Rattle.words.proofs.Numbers.{word_of_part}
 use Rattle.lap.specs.Stepping.{entry_of, store_reach, store_step, stored_step}
 use Rattle.lap.proofs.Reaching.{store-inside}
