@@ -13,7 +13,7 @@ use Rattle.machine.specs.Opcodes.{code_of, same_class}
 use Rattle.dispatch.specs.Testing.{with_operand, WithOperand}
 
 -- the classes in their order
-abbrev classes : List Class
+abbrev pub classes : List Class
 classes = Lr ∷ Ar ∷ Sr ∷ Bcr ∷ Svc ∷ La ∷ Bc ∷ St ∷ L ∷ Lpsw ∷ Stctl ∷ Lctl ∷ Stck ∷ Spt ∷ Stpt ∷ Mandatory ∷ Unassigned ∷ []
 
 -- a class stands at its code
