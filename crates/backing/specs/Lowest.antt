@@ -1,4 +1,4 @@
--- The bytes of an entry as they are read, and the lowest number whose test is false.
+-- The bytes of an entry as a number, the first in the lowest place, and the lowest number whose test is false.
 use Rattle.std.specs.Prelude.{ℕ, ◌+◌, ◌*◌, ◌<◌, ◌≡◌, Bool, List, Option, Some, None}
 use Rattle.machine.specs.Words.{byte_at}
 use Rattle.desk.proofs.Surveys.{AllPass, FirstFails}

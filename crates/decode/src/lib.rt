@@ -1,5 +1,5 @@
-// The table of opcodes, searched by opcode. The contract of decode equates with the definition's opcode_of; the table is seen by
-// nothing else.
+// The table of opcodes, searched by opcode. The contract of decode equates with the definition's opcode_of; the table is seen
+// by nothing else.
 #![tactic(auto)]
 
 ghost use Rattle.std.specs.Prelude.{◌≡◌, true, ◌<◌, map, IfSome};
@@ -16,8 +16,8 @@ enum Architectures {
     System370,
 }
 
-// A row of the table: the opcode's number, the architectures that have it, its length in halfwords, whether it is privileged, the
-// alignment of its operand, and its class.
+// A row of the table: the opcode's number, the architectures that have it, its length in halfwords, whether it is privileged,
+// the alignment of its operand, and its class.
 #[derive(Clone, Copy)]
 struct Row(u32, Architectures, u8, bool, u32, Class);
 
